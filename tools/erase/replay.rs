@@ -450,7 +450,7 @@ impl Calls for Erased<'_> {
     fn leave(&mut self, register: Register<Self::Filling, Self::Ref>) {
         match register {
             Register::Empty => {}
-            Register::Filling(filling) => filling.forget(),
+            Register::Filling(filling) => self.lane.leave(filling),
             Register::Ref(reference) => reference.forget(),
         }
     }

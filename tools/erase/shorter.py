@@ -1,6 +1,7 @@
 """What the translator writes other than the source has it, so that the program is quicker: not needed for plain Rust, and trusted apart.
 
-- Rows of values that are alike may come zeroed from the allocator (`alike`); the compiler looks whether the value has gaps.
+- Rows of values that are alike may come zeroed from the allocator (`alike`); the compiler looks whether the value has gaps. So may rows
+  of empty objects, of a type that tells that each of their bytes is 0 (`zeros`).
 - A vector whose values are copied into a row or into a table, and which nobody uses any more, becomes it (`reserved_row`, `new_table`).
 - A look whose answer nobody takes goes (`look`): a load of a word that no step changes.
 - A number that nobody takes goes (`number`): what a shape answers.
@@ -21,11 +22,14 @@ ALWAYS_INLINE = {
     "shardpool/publish": {"publish"},
     "shardpool/reclaim": {"give_home"},
     "shardpool/release": {"release"},
-    "shardpool/stores": {"give_out", "take_own"},
+    "shardpool/stores": {"take_own"},
 }
 NUMBERS = {"u8", "u16", "u32", "u64", "usize"}
 # Signs of a value that is the same each time.
 PLAIN = {"(", ")", "{", "}", ":", ",", "::"}
+# An empty object, and what a type that is `Clear` tells of it.
+FRESH = ["T", "::", "fresh", "(", "alloc", ")"]
+ZEROS = "const ZEROS: bool = false;"
 # A function that takes value by value off a vector and puts it into a row: its parameters and its body.
 PUTS_ALL = (
     r"(?P<row>\w+) : & mut Slots < (?P<type>\w+) > , mut (?P<values>\w+) : Vec < (?P=type) >"
@@ -99,14 +103,16 @@ class Shorter:
             return False
         # The count is a variable or a field, and the value made of such, of numbers and of calls without arguments: the same each time.
         simple = all(s.at(k) == "." or s.is_word(k) and s.at(k) not in self.crates for k in range(i + 5, open_at))
+        fresh = [s.at(k) for k in range(body + 4, close)] == FRESH
         calls = all(s.at(k) != "(" or s.at(k + 1) == ")" for k in range(body + 4, close))
         plain = all(s.tokens[k].kind in ("word", "number") or s.at(k) in PLAIN for k in range(body + 4, close))
-        if not (simple and calls and plain and self.gapless_value(source, body + 4)):
+        if not (simple and (fresh or calls and plain and self.gapless_value(source, body + 4))):
             return False
         self.counts["rewritten: row of values that are alike"] += 1
         count = s.text[s.tokens[i + 5].start : s.tokens[open_at - 1].end]
         s.edits.append((s.tokens[i].start, s.tokens[body].start, ""))
-        s.edits.append((s.tokens[body + 2].start, s.tokens[body + 3].end, f"push_alike({count}, || "))
+        written = f"push_fresh({count}, T::ZEROS, || " if fresh else f"push_alike({count}, || "
+        s.edits.append((s.tokens[body + 2].start, s.tokens[body + 3].end, written))
         s.edits.append((s.tokens[close + 1].end, s.tokens[close + 2].end, ""))
         for k in (*range(i, body), body + 2, body + 3, close + 2):
             s.done[k] = True

@@ -22,7 +22,10 @@ TOKEN = re.compile(r"//[^\n]*|\"(?:[^\"\\\n]|\\.)*\"|'(?:[^'\\\n]|\\[^\n]+?)'|'[
 # What means other than in Rust, or at some builds alone: values lie otherwise in memory, and copies may be refused.
 OTHERWISE = {"align_of", "align_of_val", "cfg", "cfg_attr", "cloned", "size_of", "size_of_val"}
 # Types of which no value has a value of their argument.
-HOLDS_NONE = {"Bare", "Lease", "PhantomData"}
+HOLDS_NONE = {"HeldLease", "Lease", "PhantomData", "Run"}
+# An empty object, and what a type that is `Clear` tells of it.
+FRESH = ["T", "::", "fresh", "(", "alloc", ")"]
+ZEROS = "const ZEROS : bool = false ;"
 FORGETS = "let _leaked = unsafe { ManuallyDrop :: new_unchecked ( self ) } ; } }".split()
 # The row that a vector becomes, the function that fills it in the source, and where the words stand at which lanes look.
 ASKS = "let ( mut row , lease ) = ( unsafe { reserve ( & alloc , words . as_slice ( ) ) } ) . ok ( ) ? ;"
@@ -371,10 +374,12 @@ class Walk:
         row, count, value = s[brace + 1 : call - 1], s[i + 5 : brace], s[call + 1 : self.close(call) - 1]
         if s[call - 1] != "push_reserved" or s[self.close(call) :][:2] != [";", "}"]:
             return None
-        calls = any(a == "(" and b != ")" for a, b in zip(value, value[1:]))
+        fresh = value == FRESH
+        calls = not fresh and any(a == "(" and b != ")" for a, b in zip(value, value[1:]))
         if calls or "." in value or not all(re.fullmatch(r"\w+|\.", token) for token in count):
             return None
-        want = row + ["push_alike", "("] + count + [",", "|", "|"] + value + [")", ";"]
+        name, told = ("push_fresh", ["T", "::", "ZEROS", ","]) if fresh else ("push_alike", [])
+        want = row + [name, "("] + count + [","] + told + ["|", "|"] + value + [")", ";"]
         got, end = [], j
         while end < len(o) and len(got) < len(want):
             if o[end] == "," and o[end + 1] in CLOSE and want[len(got)] != ",":
@@ -392,8 +397,9 @@ class Walk:
         size = r"(?:1|(?:std :: mem :: size_of|no_bytes) :: < [^;+]*? > \( \))"
         head = r"unsafe impl (?:< T > )?Gapless for \w+ (?:< T > )?{ const FIELDS : usize = "
         gapless = re.match(head + rf"{size}(?: \+ {size})* ; }}", text)
+        zeros = re.match(re.escape(ZEROS), text)
         access = re.match(r'crate :: sync :: (?:reads|writes) \( base \. ptr \. wrapping_add \( index \) , "place" \) ;', text)
-        for kind, found in (("asked: no drop", check), ("asked: no gap", gapless), ("access that is told", access)):
+        for kind, found in (("asked: no drop", check), ("asked: no gap", gapless), ("access that is told", access), ("asked: zeros", zeros)):
             if found:
                 return kind, i, j + len(found.group().split(" "))
         return None

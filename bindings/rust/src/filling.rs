@@ -13,7 +13,7 @@ use std::ops::{Deref, DerefMut};
 ///
 /// One that is dropped without a publish gives its place back: the object is emptied, and its key used up, so that it never names
 /// another one. (For that it is published and cleared at once. Who guesses the key could get the emptied object in between.) One that
-/// is leaked keeps its place until the pool is closed, which drops the object.
+/// is leaked keeps its place until the pool is closed, which drops the object, and the pool's row of places then isn't freed.
 ///
 /// ```
 /// # use pardz::{Pool, Shape};

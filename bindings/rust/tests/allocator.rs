@@ -340,15 +340,27 @@ fn use_once(pool: &Pool<String>) {
 }
 
 /// A thread that goes on keeps nothing of pools that have ended, but of the last ones.
-#[test]
-fn pools_that_ended_leave_nothing() {
-    alone("pools_that_ended_leave_nothing", || {
-        let rounds = |count: usize| (0..count).for_each(|_| use_once(&small()));
+fn ends_without_a_rest(name: &str, use_one: impl Fn(&Pool<String>)) {
+    alone(name, || {
+        let rounds = |count: usize| (0..count).for_each(|_| use_one(&small()));
         rounds(10);
         let before = BLOCKS.load(SeqCst);
         rounds(500);
         let left = BLOCKS.load(SeqCst).saturating_sub(before);
         assert!(left < 10, "{left} blocks are left");
+    });
+}
+
+#[test]
+fn pools_that_ended_leave_nothing() {
+    ends_without_a_rest("pools_that_ended_leave_nothing", use_once);
+}
+
+#[test]
+fn pools_with_a_forgotten_filling_leave_nothing() {
+    ends_without_a_rest("pools_with_a_forgotten_filling_leave_nothing", |pool| {
+        let lane = pool.lane().expect("nobody has it");
+        lane.create().unwrap().forget();
     });
 }
 

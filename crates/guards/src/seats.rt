@@ -149,7 +149,7 @@ impl<'p, N: PoolName, T: Clear + Drop> Seat<'p, N, T> {
     {
         let mut filling = self.create()?;
         if contents.write(filling.value_mut()).is_err() {
-            filling.forget();
+            self.lane.leave(filling);
             return Err(CreateFault::Memory);
         }
         Ok(self.publish(filling))

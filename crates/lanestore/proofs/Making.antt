@@ -15,6 +15,7 @@ module _ {T : Type 0} where
   pub made-with : (lane : LaneOf) (filling : FillingOf T) (object : T) → Made lane filling → Made lane (record filling { object = object })
   made-with lane filling object made = record {
     table = made.table;
+    directory = made.directory;
     start = made.start;
     place = made.place;
     may = made.may;

@@ -1,4 +1,5 @@
 //! A lane with the fillings that it keeps for its callers.
+ghost use Rattle.std.specs.Prelude.{◌≡◌};
 ghost use Rattle.lanestore.specs.Fillings.{AreMade};
 
 use crate::kept::Fillings;
@@ -32,12 +33,23 @@ impl<T: Clear + Drop> Keeper<T> {
         Ok(Keeper { lane, fillings })
     }
 
-    /// The lane, without what it keeps: a filling is left.
+    /// The lane, without what it keeps: each filling is left.
     pub(crate) fn into_lane(self) -> Lane<T>
         ensures { result ≡ self.lane }
     {
-        let Keeper { lane, fillings } = self;
-        drop(fillings);
+        let Keeper { mut lane, fillings } = self;
+        leave_all(&mut lane, fillings);
         lane.into_lane()
+    }
+}
+
+/// All these fillings of the lane are left.
+fn leave_all<T: Clear + Drop>(lane: &mut CountingLane<T>, fillings: Fillings<T>)
+    requires { AreMade lane.old fillings.list.items }
+    ensures { lane.new ≡ lane.old }
+{
+    let Fillings { mut list } = fillings;
+    while let Some(kept) = list.pop() {
+        lane.leave(kept.into_filling());
     }
 }

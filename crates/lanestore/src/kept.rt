@@ -8,20 +8,21 @@ ghost use Rattle.shardpool.specs.Lanes.{Made};
 ghost use Rattle.lanestore.specs.Fillings.{AreMade, AreDistinct, HaveNot, Gain, Lose};
 
 use shardpool::Filling;
+use slotcell::Clear;
 use std::alloc::Global;
 
 /// The most fillings that a lane keeps at once.
 pub const MOST_FILLINGS: usize = 64;
 
 /// A filling that a lane keeps, which is left where it is dropped.
-pub struct Kept<T> {
+pub struct Kept<T: Clear> {
     pub(crate) filling: Filling<T>,
 }
 
-impl<T: Drop> Kept<T> {
+impl<T: Clear + Drop> Kept<T> {
     ghost use Rattle.std.specs.Prelude.{◌≡◌};
 
-    fn into_filling(self) -> Filling<T>
+    pub(crate) fn into_filling(self) -> Filling<T>
         ensures { result ≡ self.filling }
     {
         let Kept { filling } = self;
@@ -29,7 +30,7 @@ impl<T: Drop> Kept<T> {
     }
 }
 
-impl<T: Drop> Drop for Kept<T> {
+impl<T: Clear + Drop> Drop for Kept<T> {
     fn drop(self) {
         self.into_filling().forget();
     }
@@ -37,14 +38,14 @@ impl<T: Drop> Drop for Kept<T> {
 
 /// The fillings that a lane keeps, at most `MOST_FILLINGS`, each under its own key.
 #[derive(Drop)]
-pub struct Fillings<T> {
+pub struct Fillings<T: Clear> {
     pub(crate) list: Vec<Kept<T>>,
     ghost few: { length list.items ≤ MOST_FILLINGS },
     ghost roomy: { MOST_FILLINGS ≤ vec_capacity list },
     ghost distinct: { AreDistinct list.items },
 }
 
-impl<T: Drop> Fillings<T> {
+impl<T: Clear + Drop> Fillings<T> {
     /// No filling is kept. None where memory was refused.
     pub(crate) fn new(alloc: Global) -> Option<Fillings<T>>
         ensures { IfSome result (λ fillings. fillings.list.items ≡ []) }

@@ -26,9 +26,10 @@ pub room-length : (kept : Kept) → length (room_of kept) ≡ kept.room
 room-length kept = let fits = kept.fits in let long = length-drop (length kept.filling.object.bytes - kept.room) kept.filling.object.bytes in omega (arith, fits, long)
 
 -- what a lane made doesn't depend on the object
-pub made-same : (lane : LaneOf) (old new : FillingOf ByteBuf) → new.table ≡ old.table → new.key ≡ old.key → new.start ≡ old.start → Made lane old → Made lane new
-made-same lane old new table key start made = record {
+pub made-same : (lane : LaneOf) (old new : FillingOf ByteBuf) → new.table ≡ old.table → new.key ≡ old.key → new.start ≡ old.start → new.directory ≡ old.directory → Made lane old → Made lane new
+made-same lane old new table key start directory made = record {
   table = table ∙ made.table;
+  directory = directory ∙ made.directory;
   start = start ∙ (made.start ∙ ap (λ (k : ℕ). slot_start lane.shape (place_of k)) (sym key));
   place = subst (λ (k : ℕ). IsFilling lane (place_of k)) (sym key) made.place;
   may = subst (λ (k : ℕ). MayPublish lane.shape lane.book k) (sym key) made.may;
@@ -39,7 +40,7 @@ pub made-set : (lane : LaneOf) (index : ℕ) (old new : List Kept) (kept : Kept)
     → AreMade lane old → AreMade lane new
 made-set lane index old new kept low same token made =
     let before = slice_index_or old index kept in
-    let own = made-same lane before.filling kept.filling token.0 token.1 token.2 (All-get_or (λ (k : Kept). Made lane k.filling) old index kept low made) in
+    let own = made-same lane before.filling kept.filling token.0 token.1 token.2 token.4 (All-get_or (λ (k : Kept). Made lane k.filling) old index kept low made) in
     subst (AreMade lane) (sym same) (All-set (λ (k : Kept). Made lane k.filling) old index kept own made)
 
 -- what was taken out, and the others

@@ -24,6 +24,7 @@ abbrev pub SameFilling : Kept → Kept → Type 0
 SameFilling old new = (new.filling.table ≡ old.filling.table) × (new.filling.key ≡ old.filling.key)
     × (new.filling.start ≡ old.filling.start)
     × (old.filling.object.room ≤ new.filling.object.room)
+    × (new.filling.directory ≡ old.filling.directory)
 
 -- the lane made each
 abbrev pub AreMade : LaneOf → List Kept → Type 0

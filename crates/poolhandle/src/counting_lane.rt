@@ -106,6 +106,14 @@ impl<T: Clear + Drop> CountingLane<T> {
         Some(self.lane.reference_to(key))
     }
 
+    /// As `Lane::leave`.
+    pub fn leave(&mut self, filling: Filling<T>)
+        requires { Made self.old filling }
+        ensures { self.new ≡ self.old }
+    {
+        self.lane.leave(filling);
+    }
+
     /// As `Pool::tell`.
     pub fn tell(&mut self, pool: &Pool<T>) -> Note<T>
         requires { Owns pool.now self.old }

@@ -137,7 +137,8 @@ impl Handle {
         let Some(index) = self.fillings.find(key) else {
             return Err(Refusal::NoFilling);
         };
-        self.fillings.take(index).into_content().forget();
+        let filling = self.fillings.take(index).into_content();
+        self.lane.leave(filling);
         Ok(())
     }
 
@@ -248,18 +249,30 @@ impl Handle {
         ]
     }
 
-    /// The share of the pool, the lane and its row. A filling is left.
+    /// The share of the pool, the lane and its row. Each filling is left.
     pub(crate) fn into_parts(self) -> (Arc<Shared>, Box<CountingLane<ByteBuf>>, Vec<Lane<ByteBuf>>)
         ensures parts { (arc_value result.0 ≡ arc_value self.shared) × (result.1.value ≡ self.lane.value) × (result.2.items ≡ []) }
         ensures owned { Owns (arc_value result.0).pool result.1.value }
     {
         let Handle {
             shared,
-            lane,
-            fillings: _,
+            mut lane,
+            fillings,
             joined: _,
             row,
         } = self;
+        leave_all(&mut lane, fillings);
         (shared, lane, row)
+    }
+}
+
+/// All these fillings of the lane are left.
+fn leave_all(lane: &mut CountingLane<ByteBuf>, fillings: Fillings)
+    requires { AreMade lane.old fillings.list.items }
+    ensures { lane.new ≡ lane.old }
+{
+    let Fillings { mut list } = fillings;
+    while let Some(kept) = list.pop() {
+        lane.leave(kept.into_filling());
     }
 }

@@ -38,7 +38,8 @@ impl Kept {
 
     /// The filling, with its content alone.
     pub(crate) fn into_content(self) -> Filling<ByteBuf>
-        ensures token { (result.table ≡ self.filling.table) × (result.key ≡ self.filling.key) × (result.start ≡ self.filling.start) }
+        ensures token { (result.table ≡ self.filling.table) × (result.key ≡ self.filling.key) × (result.start ≡ self.filling.start)
+            × (result.directory ≡ self.filling.directory) }
         ensures content { result.object.bytes ≡ content_of self }
         ensures room { result.object.room ≡ self.filling.object.room }
     {

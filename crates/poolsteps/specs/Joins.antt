@@ -44,9 +44,10 @@ module _ {T : Type 0} where
     pub cell : ℕ
     pub part : HasPart slots (slot_index z place (shard_of place)) (spots place) cell 0 1
 
-  -- what the slots of a place have, by its lifecycle word: where that is 0 a cell that rests, and where the place is published each lane's share
+  -- what the slots of a place have, by its lifecycle word: where that is 0 or retired a cell that rests, and where the place is published each lane's share
   pub record HasCell (spots : ℕ → CellSpot) (z : Shape) (slots : List (Option (Share T))) (place word : ℕ) : Type 0 where
     pub resting : word ≡ 0 → IsResting spots z slots place
+    pub retired : state_in word ≡ 2 → IsResting spots z slots place
     pub spread : (state_in word ≡ 1) ⊎ (state_in word ≡ 3) → IsSpread spots z slots place
 
   -- each lane's slot of the place is empty
@@ -60,6 +61,7 @@ module _ {T : Type 0} where
   -- the slots of a place have its cell no more, wherever by its lifecycle word they had it
   pub record HasNoCell (z : Shape) (slots : List (Option (Share T))) (place word : ℕ) : Type 0 where
     pub unrested : word ≡ 0 → IsUnrested z slots place
+    pub unretired : state_in word ≡ 2 → IsUnrested z slots place
     pub unspread : (state_in word ≡ 1) ⊎ (state_in word ≡ 3) → IsUnspread z slots place
 
   -- the slots are as before, but perhaps those of the place

@@ -4,22 +4,21 @@ use Rattle.std.specs.Coded.{Coded, code_by, coded×, coded_ℕ, coded_bool, code
 use denote.RawPtr.{Ptr, coded_ptr}
 use Rattle.poolsteps.specs.Spot.{Spot}
 
--- the directory's address; the number of the first own place; of each own place the object that waits there, and whether the right
--- to it is here; and for how many words there is room to keep a right
+-- the directory's address; the number of the first own place; and of each own place the object that waits there, and whether the
+-- right to it is here
 pub record ObjectsOf (T : Type 0) : Type 0 where
   pub directory : Ptr
   pub first : ℕ
   pub items : List (Option T)
   pub rights : List Bool
-  pub wide : ℕ
 
 -- a code for these, by one for the objects
 abbrev pub objects_code : {T : Type 0} → Coded T → Coded (ObjectsOf T)
 objects_code {T} code = code_by ((Ptr × ℕ)
-    × (List (Option T) × (List Bool
-    × ℕ))) (coded× (coded× coded_ptr coded_ℕ) (coded× (coded_list (coded_option code)) (coded× (coded_list coded_bool) coded_ℕ)))
-    (λ o. ((o.directory, o.first), (o.items, (o.rights, o.wide))))
-    (λ p. record { directory = p.0.0; first = p.0.1; items = p.1.0; rights = p.1.1.0; wide = p.1.1.1 }) (λ _. refl)
+    × (List (Option T)
+    × List Bool)) (coded× (coded× coded_ptr coded_ℕ) (coded× (coded_list (coded_option code)) (coded_list coded_bool)))
+    (λ o. ((o.directory, o.first), (o.items, o.rights)))
+    (λ p. record { directory = p.0.0; first = p.0.1; items = p.1.0; rights = p.1.1 }) (λ _. refl)
 
 -- a place of a directory, by the directory's address and the place's number
 abbrev pub spot_at : Ptr → ℕ → Spot

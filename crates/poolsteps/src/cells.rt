@@ -1,5 +1,4 @@
-//! The cells of places: where a row of them begins, a share, a slot for one, the shares in one hand, the whole, a place
-//! without an object.
+//! The cells of places: where a row of them begins, a share, a slot for one, the shares in one hand, the whole.
 ghost use Rattle.std.specs.Prelude.{◌≡◌, ◌==◌, ℕ, ⊤, Some, None, IsSome, IfSome, Option, nat_lt, ◌+◌, ◌-◌, ◌<◌, ◌^◌, ◌≤◌};
 ghost use Rattle.poolsteps.specs.Spot.{IsAt};
 ghost use Rattle.std.specs.Coded.{coded_option};
@@ -7,8 +6,8 @@ ghost use Rattle.poolsteps.specs.Held.{Held, held_code, held_owns, held_shares, 
 ghost use Rattle.poolsteps.specs.Rest.{lowest_share};
 ghost use Rattle.std.specs.Borrow.{sem};
 
-use crate::memory::{Bare, Loose, Portion, fill, vacate};
-use std::alloc::{AllocError, Global};
+use crate::memory::{Loose, Portion};
+use std::alloc::AllocError;
 use std::marker::{Model, PhantomData, Send, Sync};
 use std::mem;
 
@@ -68,7 +67,7 @@ unsafe impl Sync for Address {}
 /// One of the shares of a place: the right to read the object in it, which nobody writes meanwhile. It has no bytes.
 #[derive(Drop)]
 pub struct Share<T> {
-    pub(crate) portion: Portion<Box<T, Global>>,
+    pub(crate) portion: Portion<T>,
 }
 
 impl<T> Model for Share<T> {
@@ -210,7 +209,7 @@ unsafe impl<T: Send + Sync> Sync for MaybePortion<T> {}
 /// A place for a share of a cell, or for none. It has no bytes.
 #[derive(Drop)]
 pub struct Slot<T> {
-    portion: MaybePortion<Box<T, Global>>,
+    portion: MaybePortion<T>,
 }
 
 impl<T> Model for Slot<T> {
@@ -252,11 +251,11 @@ impl<T> Slot<T> {
     }
 
     /// Answers the object of this place, which the share shows.
-    pub fn read(&self, directory: Base<Box<T, Global>>, index: usize) -> &T
+    pub fn read(&self, directory: Base<T>, index: usize) -> &T
         requires { (share : Shown T) × (self.now ≡ Some share) × IsAt share.spot directory.ptr index }
         ensures { IfSome self.now (λ share. result.now ≡ share.object) }
     {
-        &**self.portion.read(directory, index)
+        self.portion.read(directory, index)
     }
 
     /// The share of the first of the two that has one.
@@ -304,7 +303,7 @@ impl<T> Slot<T> {
 /// The shares of a place from one number on, up to the last, all in one hand. It has no bytes.
 #[derive(Drop)]
 pub struct Rest<T> {
-    pub(crate) portion: Portion<Box<T, Global>>,
+    pub(crate) portion: Portion<T>,
 }
 
 impl<T> Model for Rest<T> {
@@ -374,10 +373,10 @@ impl<T> Rest<T> {
     }
 }
 
-/// A place with its object, which nobody else can reach. It has no bytes: the object stands in its box.
+/// A place with its object, which nobody else can reach. It has no bytes: the object stands in the directory.
 #[derive(Drop)]
 pub struct Whole<T> {
-    pub(crate) word: Loose<Box<T, Global>>,
+    pub(crate) word: Loose<T>,
 }
 
 impl<T> Model for Whole<T> {
@@ -394,47 +393,21 @@ impl<T> Model for Whole<T> {
 impl<T> Whole<T> {
     ghost use Rattle.poolsteps.specs.WholeLends.{LendsObject};
 
-    /// Puts an object into a vacant place.
-    pub fn put(
-        vacancy: Vacancy<T>,
-        object: Box<T, Global>,
-        directory: Base<Box<T, Global>>,
-        index: usize,
-    ) -> Whole<T>
-        requires { IsAt vacancy directory.ptr index }
-        ensures { (result.spot ≡ vacancy) × (result.object ≡ object.value) }
-    {
-        let Vacancy { word } = vacancy;
-        Whole {
-            word: fill(word, directory, index, object),
-        }
-    }
-
-    /// Takes the object out of its place, which is vacant then.
-    pub fn take(self, directory: Base<Box<T, Global>>, index: usize) -> (Vacancy<T>, Box<T, Global>)
-        requires { IsAt self.spot directory.ptr index }
-        ensures { (result.0 ≡ self.spot) × (result.1.value ≡ self.object) }
-    {
-        let Whole { word } = self;
-        let (word, object) = vacate(word, directory, index);
-        (Vacancy { word }, object)
-    }
-
     /// Answers the object.
-    pub fn get(&self, directory: Base<Box<T, Global>>, index: usize) -> &T
+    pub fn get(&self, directory: Base<T>, index: usize) -> &T
         requires { IsAt self.now.spot directory.ptr index }
         ensures { result.now ≡ self.now.object }
     {
-        &**self.word.get(directory, index)
+        self.word.get(directory, index)
     }
 
     /// Answers the object for writing.
-    pub fn get_mut(&mut self, directory: Base<Box<T, Global>>, index: usize) -> &mut T
+    pub fn get_mut(&mut self, directory: Base<T>, index: usize) -> &mut T
         requires { IsAt self.old.spot directory.ptr index }
         ensures* writes_back { sem 𝓛 (LendsObject T.row self.entry result) }
         ensures object { result.now ≡ self.old.object }
     {
-        &mut **self.word.get_mut(directory, index)
+        self.word.get_mut(directory, index)
     }
 
     /// Lends the place in `n` shares, from 1 to 2^32, all in one hand. Each shows the object.
@@ -447,20 +420,4 @@ impl<T> Whole<T> {
             portion: Portion::lend(word, n),
         }
     }
-}
-
-/// The right to a place that has no object: to its word in the directory. It has no bytes.
-#[derive(Drop)]
-pub struct Vacancy<T> {
-    pub(crate) word: Loose<Bare<T>>,
-}
-
-impl<T> Model for Vacancy<T> {
-    ghost use Rattle.poolsteps.specs.Spot.{Spot, spot_code};
-
-    ghost Value = { Spot };
-
-    ghost coded = { spot_code };
-
-    ghost view = { λ v. record { directory = v.word.base; index = v.word.index } };
 }

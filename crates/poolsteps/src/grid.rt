@@ -52,7 +52,7 @@ pub struct Grid<T: Clear> {
     /// The pool's shape.
     pub shape: Shape,
     /// Where the pool's objects stand: each in the word of its place.
-    pub objects: Base<Box<T, Global>>,
+    pub objects: Base<T>,
     /// How many slots stand between those of a place for two lanes that follow each other.
     pub(crate) row: usize,
     /// Where the link words begin.

@@ -10,7 +10,6 @@ mod directory;
 mod directory_end;
 mod find;
 mod grid;
-mod kept;
 mod laws;
 mod layout;
 mod memory;
@@ -25,8 +24,8 @@ mod steps;
 mod threads;
 mod view;
 
-pub use cells::{Address, Base, Rest, Share, Slot, Tally, Vacancy, Whole};
-pub use closing::drop_cell;
+pub use cells::{Address, Base, Rest, Share, Slot, Tally, Whole};
+pub use closing::out_cell;
 pub use directory::Directory;
 pub use directory_end::close_directory;
 pub use grid::{Board, Grid, Hand, PoolRule, Spot};

@@ -1,6 +1,6 @@
 //! Memory by the right to it, over raw pointers, in functions of a few lines that are proved by hand: a value that
-//! nobody else reaches, a part of one that is lent, a word without an object, values side by side, the right to free them.
-ghost use Rattle.std.specs.Prelude.{◌≡◌, ℕ, ◌+◌, ◌-◌, ◌^◌, ◌<◌, ◌≤◌, Bool, true, false, ◌||◌, ⊤, List, ◌∷◌, length};
+//! nobody else reaches, a part of one that is lent, values side by side, the right to free them.
+ghost use Rattle.std.specs.Prelude.{◌≡◌, ℕ, ◌+◌, ◌-◌, ◌^◌, ◌<◌, ◌≤◌, Bool, true, false, ◌||◌, List, ◌∷◌, length};
 ghost use Rattle.std.specs.Borrow.{sem};
 ghost use denote.RawPtr.{Ptr, coded_ptr};
 ghost use Rattle.poolsteps.specs.Portion.{loose_owns, loose_shares, cell_owns, cell_shares};
@@ -10,9 +10,8 @@ ghost use base.Fml.{ftrue};
 
 use crate::cells::Base;
 use core::slots::{Lease, Slots};
-use std::alloc::{AllocError, Allocator, Global};
+use std::alloc::Allocator;
 use std::marker::{Model, PhantomData, Send, Sync};
-use std::ptr;
 
 // The value `object` at this index of a row that begins at `base`.
 #[derive(Drop)]
@@ -116,114 +115,6 @@ impl<T> Portion<T> {
 unsafe impl<T: Send + Sync> Send for Portion<T> {}
 
 unsafe impl<T: Send + Sync> Sync for Portion<T> {}
-
-// What a box leaves in memory when it is taken out. It owns nothing.
-pub(crate) struct Bare<T> {
-    pub(crate) at: *mut T,
-    pub(crate) alloc: Global,
-}
-
-impl<T> Clone for Bare<T> {
-    ghost is_clone = { λ x y. y ≡ x };
-
-    ghost is_infallible = { λ _. ⊤ };
-
-    fn clone(&self) -> Result<Bare<T>, AllocError> {
-        Ok(*self)
-    }
-}
-
-impl<T> Copy for Bare<T> {}
-
-unsafe impl<T> Send for Bare<T> {}
-
-unsafe impl<T> Sync for Bare<T> {}
-
-// The same address, for the boxes in the words.
-pub(crate) fn of_boxes<T>(base: Base<Bare<T>>) -> Base<Box<T, Global>>
-    ensures { result.ptr ≡ base.ptr }
-{
-    Base {
-        ptr: base.ptr as *mut Box<T, Global>,
-    }
-}
-
-// The same address, for what boxes leave in the words.
-pub(crate) fn of_bare<T>(base: Base<Box<T, Global>>) -> Base<Bare<T>>
-    ensures { result.ptr ≡ base.ptr }
-{
-    Base {
-        ptr: base.ptr as *mut Bare<T>,
-    }
-}
-
-// The same address, for numbers in the words.
-pub(crate) fn of_numbers<T>(base: Base<Box<T, Global>>) -> Base<usize>
-    ensures { result.ptr ≡ base.ptr }
-{
-    Base {
-        ptr: base.ptr as *mut usize,
-    }
-}
-
-// Writes a number into a word without a box.
-pub(crate) fn note<T>(
-    word: Loose<Bare<T>>,
-    base: Base<usize>,
-    index: usize,
-    number: usize,
-) -> Loose<usize>
-    requires { (base.ptr ≡ word.base) × (index ≡ word.index) }
-    ensures { (result.base ≡ word.base) × (result.index ≡ word.index) × (result.object ≡ number) }
-{
-    let Loose { mark: _ } = word;
-    unsafe { ptr::write(base.ptr.add(index), number) };
-    Loose { mark: PhantomData }
-}
-
-// Writes over the number what a box leaves in the word.
-pub(crate) fn blank<T>(
-    word: Loose<usize>,
-    base: Base<Bare<T>>,
-    index: usize,
-    bare: Bare<T>,
-) -> Loose<Bare<T>>
-    requires { (base.ptr ≡ word.base) × (index ≡ word.index) }
-    ensures { (result.base ≡ word.base) × (result.index ≡ word.index) × (result.object ≡ bare) }
-{
-    let Loose { mark: _ } = word;
-    unsafe { ptr::write(base.ptr.add(index), bare) };
-    Loose { mark: PhantomData }
-}
-
-// Writes a box into the word.
-pub(crate) fn fill<T>(
-    word: Loose<Bare<T>>,
-    base: Base<Box<T, Global>>,
-    index: usize,
-    object: Box<T, Global>,
-) -> Loose<Box<T, Global>>
-    requires { (base.ptr ≡ word.base) × (index ≡ word.index) }
-    ensures { (result.base ≡ word.base) × (result.index ≡ word.index) × (result.object ≡ object) }
-{
-    let Loose { mark: _ } = word;
-    unsafe { ptr::write(base.ptr.add(index), object) };
-    Loose { mark: PhantomData }
-}
-
-// Takes the box out of the word.
-pub(crate) fn vacate<T>(
-    word: Loose<Box<T, Global>>,
-    base: Base<Box<T, Global>>,
-    index: usize,
-) -> (Loose<Bare<T>>, Box<T, Global>)
-    requires { (base.ptr ≡ word.base) × (index ≡ word.index) }
-    ensures { (result.0.base ≡ word.base) × (result.0.index ≡ word.index) × (result.1 ≡ word.object) }
-{
-    let Loose { mark: _ } = word;
-    let object = unsafe { ptr::read(base.ptr.add(index)) };
-    (Loose { mark: PhantomData }, object)
-}
 
 // The values of a row of `total` from the index `first` on.
 pub(crate) struct Run<T> {

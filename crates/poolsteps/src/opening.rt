@@ -28,11 +28,7 @@ impl Split<View> for Deal {
 
 impl<T: Clear> Grid<T> {
     /// The table of a pool of this shape, and the hand of each lane, by rising number. None where memory was refused.
-    pub fn new(
-        alloc: Global,
-        shape: &Shape,
-        objects: Base<Box<T, Global>>,
-    ) -> Option<(Grid<T>, Vec<Hand<T>>)>
+    pub fn new(alloc: Global, shape: &Shape, objects: Base<T>) -> Option<(Grid<T>, Vec<Hand<T>>)>
         requires { IsShape shape.now }
         ensures shape { IfSome result (λ made. (made.0.shape ≡ shape.now) × (made.0.objects ≡ objects)) }
         ensures hands { IfSome result (λ made. AreFirstHands made.0 made.1.items) }
@@ -46,11 +42,7 @@ impl<T: Clear> Grid<T> {
     }
 
     /// The table of a pool of this shape, and the seat of all its lanes. None where memory was refused.
-    fn undealt(
-        alloc: Global,
-        shape: Shape,
-        objects: Base<Box<T, Global>>,
-    ) -> Option<(Grid<T>, Hand<T>)>
+    fn undealt(alloc: Global, shape: Shape, objects: Base<T>) -> Option<(Grid<T>, Hand<T>)>
         requires { IsShape shape }
         ensures shape { IfSome result (λ made. (made.0.shape ≡ shape) × (made.0.objects ≡ objects)) }
         ensures seat { IfSome result (λ made. IsOf made.0 made.1 × (made.1.me ≡ (first_view shape, []))) }

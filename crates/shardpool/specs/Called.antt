@@ -24,7 +24,7 @@ use Rattle.poolsteps.specs.Views.{the_lane, pushed_in, status_of, known_of, acts
 use Rattle.poolsteps.specs.Told.{Sees, Marks, IsIdle, Quiet, HasPlace, LeftAlone, references_seen}
 use Rattle.shardpool.specs.Acted.{Acted}
 use Rattle.shardpool.specs.Bounds.{most_return_steps, most_end_steps, most_steps, most_end_looks}
-use Rattle.shardpool.specs.Carried.{AreEmptied}
+use Rattle.shardpool.specs.Carried.{AreEmptied, AreAtRest}
 use Rattle.shardpool.specs.declared.reclaim.Reclaimed.{Reclaimed}
 use Rattle.shardpool.specs.declared.reclaim.Reclaimed.TheVariants.{Own, Returned, Retired}
 
@@ -91,33 +91,33 @@ abbrev pub Ends : {S : Type 0} → Shape → ℕ → ℕ → Me S View → Me S 
 Ends z place found before after = (leave : Step) → leave.before ≡ found
     → GoesToEnd z place (leave ∷ []) most_end_steps most_end_looks before after
 
--- what became of the place, by what the seat then saw and knows: the object of an own place is empty, with at least the place's room
+-- what became of the place, by what the seat then saw and knows: the object of an own place is empty, with at least the place's room, and a retired place is at rest
 abbrev pub IsReclaimed : {T : Type 0} → (T → List ℕ) → (T → ℕ) → Shape → ℕ → ℕ → View → Reclaimed T → Type 0
 IsReclaimed content room z place lane v (Own whole) = (shard_of place ≡ lane) × HasPlace z v place × AreEmptied z (the_lane v) place
     × (content whole.object ≡ []) × (room_of v.seen v.rooms place ≤ room whole.object)
 IsReclaimed content room z place lane v Returned = shard_of place ≢ lane
-IsReclaimed content room z place lane v (Retired vacancy) = Unit {0}
+IsReclaimed content room z place lane v Retired = AreAtRest z (the_lane v) place
 
 -- what became of a reclaimed place stands in this word
 abbrev pub StandsAt : {T : Type 0} → CellSpot → Option (Reclaimed T) → Type 0
 StandsAt spot None = Unit {0}
 StandsAt spot (Some (Own whole)) = whole.spot ≡ spot
 StandsAt spot (Some Returned) = Unit {0}
-StandsAt spot (Some (Retired vacancy)) = vacancy ≡ spot
+StandsAt spot (Some Retired) = Unit {0}
 
 -- the acts by which a place was reclaimed at a generation, by what became of it
 abbrev pub end_acts : {T : Type 0} → Shape → ℕ → ℕ → ℕ → Option (Reclaimed T) → List Act
 end_acts z lane place generation None = []
 end_acts z lane place generation (Some (Own whole)) = reclaim z lane place generation ∷ []
 end_acts z lane place generation (Some Returned) = reclaim z lane place generation ∷ acts.Home lane place ∷ []
-end_acts z lane place generation (Some (Retired vacancy)) = reclaim z lane place generation ∷ []
+end_acts z lane place generation (Some Retired) = reclaim z lane place generation ∷ []
 
 -- the generation is the last exactly where the place is retired
 abbrev pub FitsGeneration : {T : Type 0} → Shape → ℕ → Option (Reclaimed T) → Type 0
 FitsGeneration z generation None = Unit {0}
 FitsGeneration z generation (Some (Own whole)) = generation ≢ z.last_generation
 FitsGeneration z generation (Some Returned) = generation ≢ z.last_generation
-FitsGeneration z generation (Some (Retired vacancy)) = generation ≡ z.last_generation
+FitsGeneration z generation (Some Retired) = generation ≡ z.last_generation
 
 -- where no place was reclaimed, the lane moved nothing; where one was, it had left its slots alone before
 abbrev pub MovedNothing : {T : Type 0} → Shape → ℕ → LaneRecord → LaneRecord → Option (Reclaimed T) → Type 0
@@ -129,7 +129,7 @@ abbrev pub end_pushed : {T : Type 0} → List (ℕ × ℕ) → ℕ → Option (R
 end_pushed pushed place None = pushed
 end_pushed pushed place (Some (Own whole)) = pushed
 end_pushed pushed place (Some Returned) = (shard_of place, link_to place) ∷ pushed
-end_pushed pushed place (Some (Retired vacancy)) = pushed
+end_pushed pushed place (Some Retired) = pushed
 
 -- the lane made these acts, and after them those by which the place was reclaimed, if it was, and pushed it where it was returned; where it was not, the lane moved nothing
 abbrev pub EndsWithActs : {T : Type 0} → Shape → ℕ → List Act → View → View → Option (Reclaimed T) → Type 0
@@ -148,7 +148,7 @@ abbrev pub TailActs : {T : Type 0} → Shape → ℕ → ℕ → View → View �
 TailActs z place generation before after (Own whole) = (generation ≢ z.last_generation) × ((the_lane after).mine ≡ (the_lane before).mine)
     × ((the_lane after).pushed ≡ (the_lane before).pushed)
 TailActs z place generation before after Returned = (generation ≢ z.last_generation) × MadeHome place before after
-TailActs z place generation before after (Retired vacancy) = (generation ≡ z.last_generation)
+TailActs z place generation before after Retired = (generation ≡ z.last_generation)
     × ((the_lane after).mine ≡ (the_lane before).mine) × ((the_lane after).pushed ≡ (the_lane before).pushed)
 
 -- the lane made just this act, and pushed nothing

@@ -15,7 +15,7 @@ use Rattle.poolsteps.specs.Views.{the_lane, pushed_in, IsOne}
 use Rattle.poolsteps.specs.declared.grid.Grid.{Grid}
 use Rattle.poolsteps.specs.Share.{Share}
 use Rattle.poolsteps.specs.Grids.{IsOf}
-use Rattle.poolsteps.specs.Layout.{slot_row, slot_start, shard_start, spots_at}
+use Rattle.poolsteps.specs.Layout.{slot_start, shard_start, spots_at}
 use Rattle.poolsteps.specs.Told.{IsIdle, Leaves}
 use Rattle.steplaws.specs.StepLaws.{owed_after}
 use Rattle.steplaws.specs.declared.pending.Pending.TheVariants.{Undo}
@@ -33,7 +33,7 @@ pub record IsKeeper {T : Type 0} (z : Shape) (directory : Ptr) (place : ℕ) (v 
   pub directory_is : s.objects.directory ≡ directory
   pub narrow : length s.objects.items ≡ shard_places z
   pub wide : length s.last_pushed.items ≡ z.lanes
-  pub begins : (s.objects.first ≡ shard_start z s.free.shard) × (s.objects.wide ≡ slot_row z)
+  pub begins : s.objects.first ≡ shard_start z s.free.shard
   pub lane : s.number ≡ (the_lane v).lane
   pub below : s.number < z.lanes
   pub top : slice_index s.last_pushed.items (shard_of place) ≡ pushed_in (the_lane v).pushed (shard_of place)

@@ -22,7 +22,8 @@ use Rattle.poolsteps.specs.Objects.{ObjectsOf}
 use Rattle.shardpool.specs.HeldKeys.{HeldKey}
 use Rattle.shardpool.specs.declared.pool.LaneState.{LaneState}
 use Rattle.shardpool.specs.Rows.{AreStanding}
-use Rattle.shardpool.specs.Places.{IsBlank, IsResting, held_after, left_with}
+use Rattle.shardpool.specs.Carried.{AreAtRest}
+use Rattle.shardpool.specs.Places.{IsBlank, IsResting, held_after, left_with, has_retired}
 
 -- the seat is that of one lane of the pool, which saw a legal history with just its own acts, in which owners alone publish, has nothing under way, and whose acts left it no place of another lane's shard
 pub record FitsSeat (z : Shape) (v : View) (number : ℕ) : Type 0 where
@@ -37,6 +38,8 @@ pub record FitsSeat (z : Shape) (v : View) (number : ℕ) : Type 0 where
   pub own : (the_lane v).mine ≡ acts_of (the_lane v).lane v.seen
   pub paired : length v.rooms ≡ length v.seen
   pub alone : (place : ℕ) → is_place z place ≡ true → shard_of place ≢ number → left_with z place (the_lane v).mine false ≡ false
+  -- a place that it retired is at rest
+  pub retires : (place : ℕ) → is_place z place ≡ true → has_retired z place (the_lane v).mine false ≡ true → AreAtRest z (the_lane v) place
 
 -- these are the words that the lane last pushed, by their shards
 pub record FitsTops (z : Shape) (v : View) (last_pushed : List ℕ) : Type 0 where
@@ -48,14 +51,12 @@ abbrev pub IsFirst : Option Place → List ℕ → Type 0
 IsFirst None chain = chain ≡ []
 IsFirst (Some place) chain = chain ≡ number_of place ∷ rest_of chain
 
--- the lane has the right to each place of its shard that its acts leave with it, but to those of its taken chain
-pub record FitsRights {T : Type 0} (z : Shape) (v : View) (objects : ObjectsOf T) : Type 0 where
-  pub first_is : objects.first ≡ shard_start z (the_lane v).lane
-  pub wide : objects.wide ≡ slot_row z
+-- the places of the lane's shard that were never opened are with its objects
+pub record FitsRights {T : Type 0} (z : Shape) (number opened : ℕ) (objects : ObjectsOf T) : Type 0 where
+  pub first_is : objects.first ≡ shard_start z number
   pub narrow : length objects.rights ≡ shard_places z
-  pub has_right : (place : ℕ) → is_place z place ≡ true → shard_of place ≡ (the_lane v).lane
-      → left_with z place (the_lane v).mine true ≡ true
-      → has (the_lane v).chain place ≡ false → slice_get objects.rights (index_of z place) ≡ Some true
+  pub has_right : (place : ℕ) → is_place z place ≡ true → shard_of place ≡ number → opened ≤ page_of place
+      → slice_get objects.rights (index_of z place) ≡ Some true
 
 module _ {T : Type 0} (content : T → List ℕ) (room : T → ℕ) (z : Shape) where
   -- the share that the lane has under its references to the key of a place and a generation
@@ -90,7 +91,7 @@ module _ {T : Type 0} (content : T → List ℕ) (room : T → ℕ) (z : Shape) 
     pub empty : content object ≡ []
     pub blank : IsBlank z v (number_of place) (room object)
 
-  -- the free places: those of the own list, those of unopened pages, which never had an object, and those of the taken chain
+  -- the free places: those of the own list, those of unopened pages, which were never used, and those of the taken chain
   pub record FitsStores (v : View) (free : FreePlaces) (pages : ShardPages) (objects : List (Option T)) : Type 0 where
     pub lists : (free.shard ≡ (the_lane v).lane) × (free.shape ≡ shape_of z.first_page z.pages)
     pub paged : (pages.shard ≡ (the_lane v).lane) × (pages.shape ≡ shape_of z.first_page z.pages)
@@ -110,5 +111,5 @@ module _ {T : Type 0} (content : T → List ℕ) (room : T → ℕ) (z : Shape) 
     pub last_pushed : FitsTops z v s.last_pushed.items
     pub rows : FitsRows v s.rows.items s.references
     pub stores : FitsStores v s.free s.pages s.objects.items
-    pub rights : FitsRights z v s.objects
+    pub rights : FitsRights z s.number s.pages.opened s.objects
     pub standing : AreStanding s.objects.directory s.rows.items

@@ -67,6 +67,7 @@ pub record IsFilling (lane : LaneOf) (place : ℕ) : Type 0 where
 -- the lane made the filling: the key is the next of a place that is a filling of the lane, and stands where the filling says
 pub record Made {T : Type 0} (lane : LaneOf) (filling : FillingOf T) : Type 0 where
   pub table : filling.table ≡ lane.table
+  pub directory : filling.directory ≡ lane.directory
   pub start : filling.start ≡ slot_start lane.shape (place_of filling.key)
   pub place : IsFilling lane (place_of filling.key)
   pub may : MayPublish lane.shape lane.book filling.key

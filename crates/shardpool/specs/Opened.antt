@@ -58,7 +58,6 @@ pub record IsFirstState {T : Type 0} (z : PoolShape) (directory : Ptr) (number :
     items = replicate (shard_places z) None;
     rights = replicate (shard_places z)
         false;
-    wide = slot_row z;
   }
   pub places : s.places.shape ≡ z
 

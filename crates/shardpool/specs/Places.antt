@@ -58,3 +58,18 @@ left_by z place (acts.Collect lane places) was = if has places place then true e
 abbrev pub left_with : Shape → ℕ → List Act → Bool → Bool
 left_with z place [] was = was
 left_with z place (act ∷ more) was = left_with z place more (left_by z place act was)
+
+-- whether a lane retired a place, after its act, where it had done so before or not: a reclaim at the last generation retires it, and an act that gives it away or brings it tells that it isn't retired
+abbrev pub retired_by : Shape → ℕ → Act → Bool → Bool
+retired_by z place (acts.Publish lane key content with_ref) was = if place == place_of key then false else was
+retired_by z place (acts.Get lane key reply) was = was
+retired_by z place (acts.Release lane key) was = was
+retired_by z place (acts.Clear lane key reply) was = was
+retired_by z place (acts.Reclaim lane key) was = if place == place_of key then generation_of key == z.last_generation else was
+retired_by z place (acts.Home lane at) was = if place == at then false else was
+retired_by z place (acts.Collect lane places) was = if has places place then false else was
+
+-- whether it retired the place by these acts
+abbrev pub has_retired : Shape → ℕ → List Act → Bool → Bool
+has_retired z place [] was = was
+has_retired z place (act ∷ more) was = has_retired z place more (retired_by z place act was)

@@ -6,7 +6,7 @@ use Rattle.keybits.specs.declared.shape.Shape.{Shape}
 use Rattle.keybits.specs.Places.{shard_of}
 use Rattle.keybits.specs.Shapes.{is_place, position_of}
 use Rattle.seqpool.specs.declared.act.Act.{Act}
-use Rattle.seqpool.specs.Pool.{published, home, has, pool_after}
+use Rattle.seqpool.specs.Pool.{published, home, retired, has, pool_after}
 use Rattle.poolsteps.specs.Share.{Share}
 use Rattle.poolsteps.specs.Spot.{Spot as CellSpot}
 use Rattle.poolsteps.specs.Views.{the_lane}
@@ -82,12 +82,13 @@ module _ {T : Type 0} where
     pub row : IsSlotRow z new
     pub start : slots_ptr new ≡ slots_ptr old
 
-  -- what the slots have when all shares are back: each published place its shares, and each place that is home or on a lane's taken chain its cell
+  -- what the slots have when all shares are back: each published place its shares, and each place that is home, retired or on a lane's taken chain its cell
   pub record HasCells (spots : ℕ
       → CellSpot) (z : Shape) (history : List Act) (lanes : List LaneOf) (slots : List (Option (Share T))) : Type 0 where
     pub spread : (place : ℕ) → is_place z place ≡ true → (content : List ℕ) (references : ℕ → ℕ) (mark : Bool)
         → (pool_after z history place).phase ≡ published content references mark → IsSpread spots z slots place
     pub returned : (place : ℕ) → is_place z place ≡ true → (pool_after z history place).phase ≡ home → IsResting spots z slots place
+    pub retires : (place : ℕ) → is_place z place ≡ true → (pool_after z history place).phase ≡ retired → IsResting spots z slots place
     pub taken : (index : ℕ) (lane : LaneOf) (place : ℕ) → is_place z place ≡ true → slice_get lanes index ≡ Some lane
         → has (the_lane lane.book).chain place ≡ true
         → IsResting spots z slots place
@@ -97,6 +98,7 @@ module _ {T : Type 0} where
     pub spread : (content : List ℕ) (references : ℕ → ℕ) (mark : Bool)
         → (pool_after z history place).phase ≡ published content references mark → IsUnspread z slots place
     pub returned : (pool_after z history place).phase ≡ home → IsUnrested z slots place
+    pub retires : (pool_after z history place).phase ≡ retired → IsUnrested z slots place
     pub taken : (index : ℕ) (lane : LaneOf) → slice_get lanes index ≡ Some lane → has (the_lane lane.book).chain place ≡ true
         → IsUnrested z slots place
 

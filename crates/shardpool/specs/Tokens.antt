@@ -1,7 +1,7 @@
 -- What a contract sees of pools, lanes and tokens.
 use Rattle.std.specs.Prelude.{ℕ, refl}
 use Rattle.std.specs.Coded.{Coded, code_by, coded×, coded_ℕ}
-use denote.RawPtr.{Ptr}
+use denote.RawPtr.{Ptr, coded_ptr}
 use Rattle.atomic_table.specs.Seated.{TableId, table_id_coded}
 use Rattle.keybits.specs.declared.shape.Shape.{Shape}
 use Rattle.freelists.specs.Queues.{FreePlaces}
@@ -24,18 +24,20 @@ pub record LaneOf : Type 0 where
   pub free : FreePlaces
   pub pages : ShardPages
 
--- a place to be filled: the table of its pool, its key, where the key's place stands, and its object
+-- a place to be filled: the table of its pool, where the directory of the pool's objects begins, its key, where the key's place stands, and its object
 pub record FillingOf (T : Type 0) : Type 0 where
   pub table : TableId
+  pub directory : Ptr
   pub key : ℕ
   pub start : ℕ
   pub object : T
 
 -- a code for fillings, by one for their objects
 abbrev pub filling_code : {T : Type 0} → Coded T → Coded (FillingOf T)
-filling_code {T} code = code_by ((TableId × ℕ)
-    × (ℕ × T)) (coded× (coded× table_id_coded coded_ℕ) (coded× coded_ℕ code)) (λ s. ((s.table, s.key), (s.start, s.object)))
-    (λ p. record { table = p.0.0; key = p.0.1; start = p.1.0; object = p.1.1 }) (λ _. refl)
+filling_code {T} code = code_by (((TableId × Ptr) × ℕ)
+    × (ℕ × T)) (coded× (coded× (coded× table_id_coded coded_ptr) coded_ℕ) (coded× coded_ℕ code))
+    (λ s. (((s.table, s.directory), s.key), (s.start, s.object)))
+    (λ p. record { table = p.0.0.0; directory = p.0.0.1; key = p.0.1; start = p.1.0; object = p.1.1 }) (λ _. refl)
 
 -- a reference: its key
 pub record RefOf : Type 0 where

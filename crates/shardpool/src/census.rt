@@ -6,9 +6,10 @@ ghost use Rattle.keybits.specs.declared.place.Place.{Place as Shown};
 ghost use Rattle.keybits.specs.Places.{shard_of, page_of, number_of};
 ghost use Rattle.keybits.specs.Shapes.{IsShape, is_place, page_start, shard_places, all_places};
 ghost use Rattle.freelists.specs.Queues.{AreFree};
-ghost use Rattle.poolsteps.specs.Layout.{word_count, words_in, slot_row, spots_at};
+ghost use Rattle.poolsteps.specs.Layout.{word_count, words_in, spots_at};
 ghost use Rattle.poolsteps.specs.Joins.{IsSlotRow, HasCell};
 ghost use Rattle.shardpool.specs.Remains.{HasCells, IsDrained, DrainsShard};
+ghost use Rattle.shardpool.specs.Stores.{AreOfShard};
 ghost use Rattle.seqpool.specs.declared.act.Act.{Act};
 ghost use Rattle.shardpool.specs.Tokens.{LaneOf};
 ghost use Rattle.shardpool.specs.Closings.{none_counted, counted, places_counted, IsCensus, AreLast};
@@ -18,7 +19,7 @@ use crate::pool::LaneState;
 use core::slots::Slots;
 use freelists::LocalFree;
 use keybits::{Life, Place, Shape, State, link_to, linked_place};
-use poolsteps::{Base, Objects, Slot, drop_cell, life_word, link_word, slot_start, stack_word};
+use poolsteps::{Base, Objects, Slot, life_word, link_word, out_cell, slot_start, stack_word};
 use std::alloc::Global;
 
 /// How many places of a pool were what when it was closed. The six numbers add up to all its places.
@@ -79,10 +80,10 @@ impl Census {
     }
 }
 
-/// The census of a pool, by its last words and what its lanes keep. The cells in the slots are dropped, with their
-/// objects, and the rights to their places are with the lanes, whose rights are left.
+/// The census of a pool, by its last words and what its lanes keep. The cells in the slots are then with the lanes' own,
+/// which are left.
 pub(crate) fn take_census<T: Drop>(
-    directory: Base<Box<T, Global>>,
+    directory: Base<T>,
     shape: &Shape,
     states: Vec<LaneState<T>>,
     words: &mut Slots<u64>,
@@ -95,7 +96,8 @@ pub(crate) fn take_census<T: Drop>(
     requires last { (history : List Act) × (lanes : List LaneOf)
         × AreLast shape.now history lanes states.items (words_in shape.now (slots_items words.old))
         × HasCells (spots_at directory.ptr shape.now) shape.now history lanes (slots_items slots.old) }
-    requires objects { All (λ state. (state.objects.directory ≡ directory.ptr) × (state.objects.wide ≡ slot_row shape.now)) states.items }
+    requires objects { All (λ state. (state.objects.directory ≡ directory.ptr)
+        × AreOfShard shape.now state.number state.objects) states.items }
     requires rights { (rights.old.items ≡ []) × (length states.items ≤ vec_capacity rights.old) }
     ensures rights { All (λ lane. lane.directory ≡ directory.ptr) rights.new.items }
     ensures census { (history : List Act) (lanes : List LaneOf)
@@ -112,7 +114,7 @@ pub(crate) fn take_census<T: Drop>(
     for mut state in states {
         let opened = state.pages.opened();
         mark_returned(shape, state.number, &state.free, words);
-        drop_cells(
+        out_cells(
             directory,
             shape,
             state.number,
@@ -221,10 +223,11 @@ fn places_of_pages(shape: &Shape, pages: u32) -> u32
     places
 }
 
-/// The cells that the slots of a shard's places have are dropped, with their objects: of the places whose lifecycle
-/// word is 0, and of published places. The rights to these places are then the lane's. Places of unopened pages have none.
-fn drop_cells<T: Drop>(
-    directory: Base<Box<T, Global>>,
+/// The cells that the slots of a shard's places have are taken out: of the places whose lifecycle word is 0, of published
+/// places, and of retired ones. They are then with the lane's objects. Places of unopened
+/// pages have none.
+fn out_cells<T: Drop>(
+    directory: Base<T>,
     shape: &Shape,
     shard: u32,
     opened: u32,
@@ -241,7 +244,7 @@ fn drop_cells<T: Drop>(
         ((words_in shape.now (slots_items words.now)).life place) }
     requires idle { (place : ℕ) → is_place shape.now place ≡ true → shard_of place ≡ shard → opened ≤ page_of place
         → IsIdleWord ((words_in shape.now (slots_items words.now)).life place) }
-    requires objects { (objects.old.directory ≡ directory.ptr) × (objects.old.wide ≡ slot_row shape.now) }
+    requires objects { (objects.old.directory ≡ directory.ptr) × AreOfShard shape.now shard objects.old }
     ensures objects { objects.new ≡ objects.old }
     ensures drains { DrainsShard shape.now shard (words_in shape.now (slots_items words.now)).life slots.old slots.new }
 {
@@ -251,8 +254,8 @@ fn drop_cells<T: Drop>(
         let position = shard as usize * places + index;
         let place = shape.place_at(position);
         let word = *words.get(life_word(shape, place, position));
-        if let Some(vacancy) = drop_cell(directory, shape, place, position, word, slots) {
-            objects.retire(slot_start(shape, place, position), vacancy);
+        if let Some(whole) = out_cell(directory, shape, place, position, word, slots) {
+            objects.bring_back(slot_start(shape, place, position), whole);
         }
     }
 }

@@ -23,7 +23,7 @@ use crate::cell_moves::take_resting;
 use crate::pool::{Lane, Pool};
 use crate::stores::{follow_on, hang, open_next, take_own};
 use keybits::{Key, Place};
-use poolsteps::{Grid, Hand, Spot, Whole};
+use poolsteps::{Base, Grid, Hand, Spot, Whole};
 use slotcell::Clear;
 use std::alloc::Global;
 use std::error::Error;
@@ -32,28 +32,42 @@ use std::marker::Model;
 use std::snapshot::Snapshot;
 use steplaws::home_law;
 
-/// A place that is to be filled, with its object. It must be spent, by a publish, a downgrade or `forget`.
+/// A place that is to be filled, with its object. It must be spent, by a publish, a downgrade, `Lane::leave` or `forget`.
 pub struct Filling<T> {
     pub(crate) key: u64,
     /// Where the key's place stands.
     pub(crate) start: u32,
-    pub(crate) object: Box<T, Global>,
+    /// Where the words of the pool's places begin.
+    pub(crate) directory: Base<T>,
+    pub(crate) whole: Whole<T>,
     pub(crate) of: Snapshot<Hand<T>>,
+    pub(crate) alloc: Global,
 }
 
 impl<T> Model for Filling<T> {
+    ghost use Rattle.poolsteps.specs.Spot.{IsAt};
     ghost use Rattle.shardpool.specs.Tokens.{FillingOf, filling_code};
 
     ghost Value = { FillingOf T };
 
     ghost coded = { filling_code T.code };
 
-    ghost view = { λ f. record { table = f.of.value.table_id; key = f.key; start = f.start; object = f.object.value } };
+    ghost view = { λ f. record {
+      table = f.of.value.table_id;
+      directory = f.directory.ptr;
+      key = f.key;
+      start = f.start;
+      object = f.whole.object;
+    } };
+
+    ghost invariant = { λ f. IsAt f.whole.spot f.directory.ptr f.start };
 }
 
 impl<T> Filling<T> {
     ghost use Rattle.std.specs.Prelude.{◌≡◌};
     ghost use Rattle.std.specs.Borrow.{sem};
+    ghost use Rattle.poolsteps.specs.Spot.{IsAt};
+    ghost use Rattle.poolsteps.specs.Objects.{spot_at};
     ghost use Rattle.shardpool.specs.Fillings.{LendsFilling};
 
     /// The key under which the object will be published.
@@ -67,7 +81,7 @@ impl<T> Filling<T> {
     pub fn value(&self) -> &T
         ensures { result.now ≡ self.now.object }
     {
-        &self.object
+        self.whole.get(self.directory, self.start as usize)
     }
 
     /// The object, to be written.
@@ -75,48 +89,70 @@ impl<T> Filling<T> {
         ensures* writes_back { sem 𝓛 (LendsFilling T.row self.old self.entry result) }
         ensures object { result.now ≡ self.old.object }
     {
-        &mut self.object
+        self.whole.get_mut(self.directory, self.start as usize)
     }
 
-    /// The filling of a key, whose place stands here, with this object, by a lane with this hand.
-    pub(crate) fn of(hand: &Hand<T>, key: u64, start: u32, object: Box<T, Global>) -> Filling<T>
-        ensures { result ≡ record { table = hand.now.table_id; key = key; start = start; object = object.value } }
+    /// The filling of a key, whose place stands here in this directory, with this cell, by a lane with this hand.
+    pub(crate) fn of(
+        hand: &Hand<T>,
+        key: u64,
+        start: u32,
+        directory: Base<T>,
+        whole: Whole<T>,
+        alloc: Global,
+    ) -> Filling<T>
+        requires { IsAt whole.spot directory.ptr start }
+        ensures { result ≡ record {
+          table = hand.now.table_id;
+          directory = directory.ptr;
+          key = key;
+          start = start;
+          object = whole.object;
+        } }
     {
         Filling {
             key,
             start,
-            object,
+            directory,
+            whole,
             of: Snapshot::of(hand),
+            alloc,
         }
     }
 
-    /// The token's key, where its place stands, and the object.
-    pub(crate) fn spend(self) -> (u64, u32, Box<T, Global>)
-        ensures { (result.0 ≡ self.key) × (result.1 ≡ self.start) × (result.2.value ≡ self.object) }
+    /// The token's key, where its place stands, and the cell.
+    pub(crate) fn spend(self) -> (u64, u32, Whole<T>)
+        ensures { (result.0 ≡ self.key) × (result.1 ≡ self.start) × (result.2.spot ≡ spot_at self.directory self.start)
+            × (result.2.object ≡ self.object) }
     {
         let Filling {
             key,
             start,
-            object,
+            directory: _,
+            whole,
             of,
+            alloc: _,
         } = self;
         drop(of);
-        (key, start, object)
+        (key, start, whole)
     }
+}
 
+impl<T: Clear + Drop> Filling<T> {
     /// The token ends, and the pool isn't told: the place stays filling until the pool is closed. The object is
-    /// dropped.
-    pub fn forget(self)
-    where
-        T: Drop,
-    {
+    /// dropped. A pool with such a place doesn't free the memory of its places when it is closed, as it does after
+    /// `Lane::leave`.
+    pub fn forget(self) {
         let Filling {
             key: _,
-            start: _,
-            object,
+            start,
+            directory,
+            mut whole,
             of,
+            alloc,
         } = self;
-        drop(object);
+        *whole.get_mut(directory, start as usize) = T::fresh(alloc);
+        drop(whole);
         drop(of);
     }
 }
@@ -168,8 +204,8 @@ impl<T: Clear + Drop> Pool<T> {
     {
         // A proof knows the invariant of a lane once a field of it is seen.
         let _ = &lane.state;
-        if let Some((spot, object)) = pop(lane) {
-            return Ok(self.fill(lane, spot, object));
+        if let Some((spot, listed)) = pop(lane) {
+            return Ok(self.fill(lane, spot, listed));
         }
         self.create_apart(lane)
     }
@@ -184,12 +220,12 @@ impl<T: Clear + Drop> Pool<T> {
         // A proof knows the invariant of a lane once a field of it is seen.
         let _ = &lane.state;
         self.take_returned(lane);
-        if let Some((spot, object)) = self.follow(lane) {
-            return Ok(self.fill(lane, spot, object));
+        if let Some((spot, whole)) = self.follow(lane) {
+            return Ok(self.fill(lane, spot, whole));
         }
         open_page(lane)?;
         match pop(lane) {
-            Some((spot, object)) => Ok(self.fill(lane, spot, object)),
+            Some((spot, whole)) => Ok(self.fill(lane, spot, whole)),
             None => unreachable!(),
         }
     }
@@ -210,48 +246,58 @@ impl<T: Clear + Drop> Pool<T> {
         }
     }
 
-    /// Follows the taken chain: its first place, with its object. None where no taken place is still to be followed.
-    fn follow(&self, lane: &mut Lane<T>) -> Option<(Spot, Box<T, Global>)>
+    /// Follows the taken chain: its first place, with its cell. None where no taken place is still to be followed.
+    fn follow(&self, lane: &mut Lane<T>) -> Option<(Spot, Whole<T>)>
         requires owns { Owns self.now lane.old }
         ensures none { IsNone result → (lane.new ≡ lane.old) × ((the_lane lane.old.book).chain ≡ []) }
-        ensures some { IfSome result (λ taken. FollowsChain T.content T.room lane.old lane.new taken.0.place taken.1.value) }
+        ensures some { IfSome result (λ taken. FollowsChain T.content T.room lane.old lane.new taken.0.place taken.1.object) }
         ensures spot { IfSome result (λ taken. IsSpot self.now.shape taken.0 taken.0.place) }
+        ensures at { IfSome result (λ taken. taken.1.spot ≡ spots_at self.now.directory self.now.shape taken.0.place) }
         ensures fillings { (filling : FillingOf T) → Made lane.old filling → Made lane.new filling }
     {
         let first = lane.state.free.chain()?;
         let spot = self.grid.spot(first.number());
         let number = lane.state.number;
         let (link, whole) = follow(&self.grid, &mut lane.hand, spot, number);
-        let object = follow_on(&mut lane.state, spot, link, whole);
-        Some((spot, object))
+        follow_on(&mut lane.state, link);
+        Some((spot, whole))
     }
 
     /// A look at the generation of a place of the lane that nobody has: a filling of it.
-    fn fill(&self, lane: &mut Lane<T>, spot: Spot, object: Box<T, Global>) -> Filling<T>
+    fn fill(&self, lane: &mut Lane<T>, spot: Spot, whole: Whole<T>) -> Filling<T>
         requires owns { Owns self.now lane.old }
         requires spot { IsSpot self.now.shape spot spot.place }
-        requires loose { IsLoose T.content T.room lane.old spot.place object.value }
-        ensures fills { Fills lane.old lane.new spot.place object.value result }
+        requires at { whole.spot ≡ spots_at self.now.directory self.now.shape spot.place }
+        requires loose { IsLoose T.content T.room lane.old spot.place whole.object }
+        ensures fills { Fills lane.old lane.new spot.place whole.object result }
         ensures fillings { (filling : FillingOf T) → Made lane.old filling → Made lane.new filling }
     {
         let key = next_key(&self.grid, &mut lane.hand, spot);
-        Filling::of(&lane.hand, key, spot.start, object)
+        Filling::of(
+            &lane.hand,
+            key,
+            spot.start,
+            self.grid.objects,
+            whole,
+            self.alloc,
+        )
     }
 }
 
-/// Where the first place of the lane's own list stands, and its object. None where the list is empty.
-fn pop<T: Clear + Drop>(lane: &mut Lane<T>) -> Option<(Spot, Box<T, Global>)>
+/// Where the first place of the lane's own list stands, and its cell. None where the list is empty.
+fn pop<T: Clear + Drop>(lane: &mut Lane<T>) -> Option<(Spot, Whole<T>)>
     ensures none { IsNone result → (lane.new ≡ lane.old) × (lane.old.free.own ≡ []) }
-    ensures some { IfSome result (λ taken. Pops T.content T.room lane.old lane.new taken.0.place taken.1.value) }
+    ensures some { IfSome result (λ taken. Pops T.content T.room lane.old lane.new taken.0.place taken.1.object) }
     ensures spot { IfSome result (λ taken. IsSpot lane.old.shape taken.0 taken.0.place) }
+    ensures at { IfSome result (λ taken. taken.1.spot ≡ spots_at lane.old.directory lane.old.shape taken.0.place) }
     ensures fillings { (filling : FillingOf T) → Made lane.old filling → Made lane.new filling }
 {
-    let (place, start, object) = take_own(&mut lane.state)?;
+    let (place, start, whole) = take_own(&mut lane.state)?;
     let spot = Spot {
         place: place.number(),
         start,
     };
-    Some((spot, object))
+    Some((spot, whole))
 }
 
 /// Opens the lane's next page: an object for each of its places, which are then the lane's own list.
@@ -277,14 +323,13 @@ fn open_page<T: Clear + Drop>(lane: &mut Lane<T>) -> Result<(), CreateFault>
 }
 
 /// So many empty objects. None where memory was refused.
-fn fresh_objects<T: Clear + Drop>(alloc: Global, count: u32) -> Option<Vec<Box<T, Global>>>
+fn fresh_objects<T: Clear + Drop>(alloc: Global, count: u32) -> Option<Vec<T>>
     ensures count { IfSome result (λ objects. length objects.items ≡ count) }
-    ensures empty { IfSome result (λ objects. All (λ object. T.content object.value ≡ []) objects.items) }
+    ensures empty { IfSome result (λ objects. All (λ object. T.content object ≡ []) objects.items) }
 {
     let mut objects = Vec::with_capacity(alloc, count as usize).ok()?;
     for _ in 0..count {
-        let object = Box::new(alloc, T::fresh(alloc)).ok()?;
-        objects.push_reserved(object);
+        objects.push_reserved(T::fresh(alloc));
     }
     Some(objects)
 }

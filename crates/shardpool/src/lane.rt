@@ -1,5 +1,6 @@
 //! Lanes: each owns a shard of a pool.
 
+use crate::create::Filling;
 use crate::get::Ref;
 use crate::pool::Lane;
 use keybits::place_of;
@@ -108,5 +109,22 @@ impl<T: Clear> Lane<T> {
     {
         // A proof knows that the lane's free places are sound once their number is asked.
         let _ = self.state.free.len();
+    }
+}
+
+impl<T: Clear + Drop> Lane<T> {
+    ghost use Rattle.std.specs.Prelude.{◌≡◌};
+    ghost use Rattle.shardpool.specs.Lanes.{Made};
+
+    /// A filling ends unpublished, and the pool isn't told: its place stays filling until the pool is closed, as after
+    /// `Filling::forget`. The object is dropped.
+    pub fn leave(&mut self, filling: Filling<T>)
+        requires { Made self.old filling }
+        ensures { self.new ≡ self.old }
+    {
+        let (_, start, mut whole) = filling.spend();
+        let at = start as usize;
+        *whole.get_mut(self.state.objects.base(), at) = T::fresh(self.state.alloc);
+        self.state.objects.bring_back(at, whole);
     }
 }

@@ -22,7 +22,7 @@ pub struct Loan<T> {
     /// Where the key's place stands.
     start: u32,
     /// Where the objects of the pool stand.
-    directory: Base<Box<T, Global>>,
+    directory: Base<T>,
     share: Slot<T>,
 }
 

@@ -93,7 +93,7 @@ fn try_open<T: Clear + Drop>(alloc: Global, shape: Shape) -> Option<(Pool<T>, Ve
 fn parts_of<T: Clear + Drop>(
     alloc: Global,
     shape: &Shape,
-    directory: Base<Box<T, Global>>,
+    directory: Base<T>,
 ) -> Option<(Grid<T>, Vec<Unendowed<T>>)>
     requires { IsShape shape.now }
     ensures grid { IfSome result (λ made. (made.0.shape ≡ shape.now) × (made.0.objects ≡ directory)) }
@@ -148,7 +148,7 @@ fn part_of<T: Clear + Drop>(
     shape: &Shape,
     number: u32,
     hand: Hand<T>,
-    directory: Base<Box<T, Global>>,
+    directory: Base<T>,
 ) -> Option<Unendowed<T>>
     requires shape { IsShape shape.now }
     requires number { number < shape.now.lanes }
@@ -165,7 +165,7 @@ fn first_state<T: Clear + Drop>(
     alloc: Global,
     shape: &Shape,
     number: u32,
-    directory: Base<Box<T, Global>>,
+    directory: Base<T>,
 ) -> Option<LaneState<T>>
     requires shape { IsShape shape.now }
     requires number { number < shape.now.lanes }
@@ -182,7 +182,6 @@ fn first_state<T: Clear + Drop>(
         directory,
         shape.shard_places() as usize,
         shard_start(shape, number),
-        slot_row(shape),
     )?;
     Some(LaneState {
         shape: *shape,

@@ -21,7 +21,6 @@ use crate::cell_moves::{spread_cell, spread_others};
 use crate::create::Filling;
 use crate::get::{Ref, add_first_reference};
 use crate::pool::{Lane, Pool};
-use crate::stores::give_out;
 use keybits::place_of;
 use poolsteps::{Grid, Hand, Share, Spot, Whole, shares_law};
 use slotcell::Clear;
@@ -39,8 +38,7 @@ impl<T: Clear + Drop> Pool<T> {
             start,
         };
         let number = lane.state.number;
-        let whole = give_out(&mut lane.state, spot, written);
-        publish(&self.grid, &mut lane.hand, spot, number, key, whole);
+        publish(&self.grid, &mut lane.hand, spot, number, key, written);
         key
     }
 
@@ -51,13 +49,12 @@ impl<T: Clear + Drop> Pool<T> {
         requires room { refs lane.old < most_references }
         ensures { AfterDowngrade T.content T.room self.now filling lane.old lane.new result }
     {
-        let (key, start, object) = filling.spend();
+        let (key, start, whole) = filling.spend();
         let spot = Spot {
             place: place_of(key),
             start,
         };
         let number = lane.state.number;
-        let whole = give_out(&mut lane.state, spot, object);
         let share = downgrade(&self.grid, &mut lane.hand, spot, number, key, whole);
         add_first_reference(&mut lane.state, spot.start as usize, key, share);
         Ref::to(key, start, &lane.state.places)

@@ -3,11 +3,10 @@ ghost use Rattle.std.specs.Prelude.{◌≡◌, ◌<◌, [], Some, None, IfSome, 
 ghost use Rattle.keybits.specs.Words.{generation_in, owes_claim};
 ghost use Rattle.steplaws.specs.StepLaws.{owed_after};
 ghost use Rattle.poolsteps.specs.Shares.{room_of};
-ghost use Rattle.poolsteps.specs.Layout.{spots_at, slot_row, shard_start};
+ghost use Rattle.poolsteps.specs.Layout.{spots_at, shard_start};
 ghost use Rattle.poolsteps.specs.Views.{the_lane, known_of, IsOne};
 ghost use Rattle.poolsteps.specs.Grids.{IsOf, SameSeat, IsSpot};
 ghost use Rattle.poolsteps.specs.Told.{HasPlace, LeftAlone, claimed_under};
-ghost use Rattle.poolsteps.specs.Spot.{IsAt as StandsIn};
 ghost use Rattle.shardpool.specs.AtPlace.{IsAt, MayAct};
 ghost use Rattle.shardpool.specs.Called.{EndsWithActs, TailActs, IsLawful, Ends, Tails, IsReclaimed, StandsAt, GivesHome, MadeHome};
 ghost use Rattle.steplaws.specs.declared.pending.Pending.TheVariants.{Returns};
@@ -22,15 +21,17 @@ ghost use Rattle.poolsteps.specs.Whole.{Whole as Cell};
 ghost use Rattle.shardpool.specs.declared.reclaim.Reclaimed.TheVariants.{Own};
 ghost use Rattle.shardpool.specs.Stores.{Keeps};
 ghost use Rattle.shardpool.specs.Handed.{HandsOut};
+ghost use Rattle.shardpool.specs.Carried.{AreEmptied, AreAtRest, MayMoveCell, MovesCell};
 
 use crate::cell_moves::{rest_cell, take_cell};
 use crate::emptier::Emptier;
 use crate::pool::LaneState;
 use crate::stores::keep;
 use keybits::{Life, claimable, link_to, owes_claim, place_of, shard_of};
-use poolsteps::{Base, Grid, Hand, Spot, Vacancy, Whole, shares_law};
+use poolsteps::{Grid, Hand, Spot, Whole, shares_law};
 use slotcell::Clear;
 use std::alloc::Global;
+use std::mem;
 
 /// What follows the LEAVE of a key's place that found this word, and what the lane keeps of it: nothing, unless the
 /// call is the last to leave a marked place. Inlined, for what is seldom done stands apart.
@@ -87,8 +88,8 @@ pub(crate) enum Reclaimed<T> {
     Own(Whole<T>),
     /// It is of another shard, and was returned there.
     Returned,
-    /// Its last generation was over: it is retired, its object was handed over, and it is vacant.
-    Retired(Vacancy<T>),
+    /// Its last generation was over: it is retired, its object was handed over, and an empty one is at rest there.
+    Retired,
 }
 
 /// The place at which a call acts, and the lane that makes it.
@@ -100,6 +101,7 @@ pub(crate) struct At<'a> {
     pub(crate) lane: u32,
     /// For each shard the word that the lane last pushed there; 0 where it pushed none.
     pub(crate) tops: &'a Vec<u64>,
+    pub(crate) alloc: Global,
 }
 
 impl At<'_> {
@@ -128,6 +130,7 @@ impl<T> LaneState<T> {
             spot,
             lane: self.number,
             tops: &self.last_pushed,
+            alloc: self.alloc,
         }
     }
 }
@@ -194,12 +197,12 @@ pub(crate) fn reclaim_place<T: Clear + Drop, E: Emptier<T>>(
     ensures took { E.takes emptier.old (known_of (the_lane hand.old.me.0) at.entry.spot.place).content emptier.new }
 {
     shares_law();
-    let start = at.spot.start as usize;
     let mut whole = take_cell(grid, hand, at.spot, at.lane);
     if generation == grid.shape.last_generation {
-        return Reclaimed::Retired(vacate(grid.objects, start, whole, emptier));
+        retire(grid, hand, at, whole, emptier);
+        return Reclaimed::Retired;
     }
-    emptier.empty(whole.get_mut(grid.objects, start));
+    emptier.empty(whole.get_mut(grid.objects, at.spot.start as usize));
     if shard_of(at.spot.place) == at.lane {
         return Reclaimed::Own(whole);
     }
@@ -208,22 +211,27 @@ pub(crate) fn reclaim_place<T: Clear + Drop, E: Emptier<T>>(
     Reclaimed::Returned
 }
 
-/// Hands over the object of a place that gets none any more. Apart, for each place comes here once at most.
+/// Hands over the object of a place that gets none any more: an empty one then rests there until the pool is closed.
+/// Apart, for each place comes here once at most.
 #[cold]
 #[inline(never)]
-fn vacate<T: Clear + Drop, E: Emptier<T>>(
-    objects: Base<Box<T, Global>>,
-    start: usize,
-    whole: Whole<T>,
+fn retire<T: Clear + Drop, E: Emptier<T>>(
+    grid: &Grid<T>,
+    hand: &mut Hand<T>,
+    at: At,
+    mut whole: Whole<T>,
     emptier: &mut E,
-) -> Vacancy<T>
-    requires { StandsIn whole.spot objects.ptr start }
-    ensures vacancy { result ≡ whole.spot }
+)
+    requires may { MayMoveCell grid.now hand.old at.spot at.lane }
+    requires slots { AreEmptied grid.now.shape (the_lane hand.old.me.0) at.spot.place }
+    requires whole { whole.spot ≡ spots_at grid.now.objects.ptr grid.now.shape at.spot.place }
+    ensures moves { MovesCell grid.now at.entry.spot.place 2 hand.old hand.new }
+    ensures slots { AreAtRest grid.now.shape (the_lane hand.new.me.0) at.entry.spot.place }
     ensures took { E.takes emptier.old (T.content whole.object) emptier.new }
 {
-    let (vacancy, object) = whole.take(objects, start);
-    emptier.retire(Box::into_inner(object));
-    vacancy
+    let object = whole.get_mut(grid.objects, at.spot.start as usize);
+    emptier.retire(mem::replace(object, T::fresh(at.alloc)));
+    rest_cell(grid, hand, at.spot, at.lane, whole);
 }
 
 /// Returns a place of another shard, which is at rest: LINK and PUSH from the word that the lane last pushed there, and
@@ -259,8 +267,7 @@ pub(crate) fn keep_reclaimed<T: Drop>(
     requires spot { IsSpot state.old.shape spot spot.place }
     requires narrow { length state.old.objects.items ≡ shard_places state.old.shape }
     requires wide { length state.old.last_pushed.items ≡ state.old.shape.lanes }
-    requires begins { (state.old.objects.first ≡ shard_start state.old.shape state.old.free.shard)
-        × (state.old.objects.wide ≡ slot_row state.old.shape) }
+    requires begins { state.old.objects.first ≡ shard_start state.old.shape state.old.free.shard }
     requires at { StandsAt (spots_at state.old.objects.directory state.old.shape spot.place) reclaimed }
     requires away { (whole : Cell T) → reclaimed ≡ Some (Own whole) → IsAway state.old.free (place_numbered spot.place) }
     ensures { Keeps spot.place reclaimed state.old state.new }
@@ -272,9 +279,6 @@ pub(crate) fn keep_reclaimed<T: Drop>(
         Some(Reclaimed::Returned) => {
             state.last_pushed[shard_of(spot.place) as usize] = link_to(spot.place);
         }
-        Some(Reclaimed::Retired(vacancy)) => {
-            state.objects.retire(spot.start as usize, vacancy);
-        }
-        None => {}
+        Some(Reclaimed::Retired) | None => {}
     }
 }

@@ -10,14 +10,13 @@ ghost use Rattle.freelists.specs.Shards.{shape_of, place_numbered};
 ghost use Rattle.freelists.specs.Queues.{IsAway, GoesOnBy};
 ghost use Rattle.poolsteps.specs.Grids.{IsSpot};
 ghost use Rattle.poolsteps.specs.Layout.{slot_start, shard_start, spots_at};
-ghost use Rattle.shardpool.specs.Stores.{KeepsOwn, TakesOwn, Hangs, FollowsOn, GivesOut};
+ghost use Rattle.shardpool.specs.Stores.{KeepsOwn, TakesOwn, Hangs, FollowsOn};
 ghost use Rattle.shardpool.specs.Openings.{OpensNext};
 
 use crate::pool::LaneState;
 use keybits::{Place, linked_place, shard_of};
 use poolsteps::{Spot, Whole};
 use slotcell::Clear;
-use std::alloc::Global;
 
 /// An emptied object of an own place rests with the lane, and the place goes to the end of the lane's list.
 #[inline(always)]
@@ -36,7 +35,7 @@ pub(crate) fn keep<T: Drop>(state: &mut LaneState<T>, spot: Spot, whole: Whole<T
 
 /// An empty object of an own place, which never had one, rests with the lane, and the place goes to the end of the
 /// lane's list.
-fn list<T: Drop>(state: &mut LaneState<T>, place: u32, object: Box<T, Global>)
+fn list<T: Drop>(state: &mut LaneState<T>, place: u32, object: T)
     requires shape { IsShape state.old.shape }
     requires placed { state.old.places.shape ≡ state.old.shape }
     requires place { is_place state.old.shape place ≡ true }
@@ -44,7 +43,7 @@ fn list<T: Drop>(state: &mut LaneState<T>, place: u32, object: Box<T, Global>)
     requires narrow { length state.old.objects.items ≡ shard_places state.old.shape }
     requires away { IsAway state.old.free (place_numbered place) }
     requires right { slice_get state.old.objects.rights (index_of state.old.shape place) ≡ Some true }
-    ensures { KeepsOwn place object.value state.old state.new }
+    ensures { KeepsOwn place object state.old state.new }
 {
     state
         .objects
@@ -52,10 +51,10 @@ fn list<T: Drop>(state: &mut LaneState<T>, place: u32, object: Box<T, Global>)
     state.free.push(Place::of_number(place));
 }
 
-/// The first place of the lane's list, where it stands, and its object. None where the list is empty, which changes
+/// The first place of the lane's list, where it stands, and its cell. None where the list is empty, which changes
 /// nothing.
 #[inline]
-pub(crate) fn take_own<T: Drop>(state: &mut LaneState<T>) -> Option<(Place, u32, Box<T, Global>)>
+pub(crate) fn take_own<T: Drop>(state: &mut LaneState<T>) -> Option<(Place, u32, Whole<T>)>
     requires shape { IsShape state.old.shape }
     requires lane { state.old.free.shard < state.old.shape.lanes }
     requires lists { state.old.free.shape ≡ shape_of state.old.shape.first_page state.old.shape.pages }
@@ -64,58 +63,26 @@ pub(crate) fn take_own<T: Drop>(state: &mut LaneState<T>) -> Option<(Place, u32,
     requires objects { (place : Shown) → Contains state.old.free.own place
         → (object : T) × (slice_get state.old.objects.items (index_of state.old.shape (number_of place)) ≡ Some (Some object)) }
     ensures { MatchOption result ((state.old.free.own ≡ [])
-        × (state.new ≡ state.old)) (λ taken. TakesOwn taken.0 taken.2.value state.old state.new
-        × (taken.1 ≡ slot_start state.old.shape (number_of taken.0))) }
+        × (state.new ≡ state.old)) (λ taken. TakesOwn taken.0 taken.2.object state.old state.new
+        × (taken.1 ≡ slot_start state.old.shape (number_of taken.0))
+        × (taken.2.spot ≡ spots_at state.old.objects.directory state.old.shape (number_of taken.0))) }
 {
     let place = state.free.pop()?;
     let start = state.places.start(place.number());
     match state.objects.take(start as usize) {
-        Some(object) => Some((place, start, object)),
+        Some(whole) => Some((place, start, whole)),
         None => unreachable!(),
     }
 }
 
-/// The taken chain goes on by this link word behind its first place, which stands here. Its object is taken out of it.
+/// The taken chain goes on by this link word behind its first place.
 #[inline]
-pub(crate) fn follow_on<T: Drop>(
-    state: &mut LaneState<T>,
-    spot: Spot,
-    link: u64,
-    whole: Whole<T>,
-) -> Box<T, Global>
-    requires shape { IsShape state.old.shape }
-    requires spot { IsSpot state.old.shape spot spot.place }
-    requires own { shard_of spot.place ≡ state.old.free.shard }
-    requires narrow { length state.old.objects.items ≡ shard_places state.old.shape }
-    requires begins { state.old.objects.first ≡ shard_start state.old.shape state.old.free.shard }
-    requires at { whole.spot ≡ spots_at state.old.objects.directory state.old.shape spot.place }
+pub(crate) fn follow_on<T: Drop>(state: &mut LaneState<T>, link: u64)
     requires chain { IsSome state.old.free.chain }
     requires goes { GoesOnBy state.old.free link }
-    ensures object { result.value ≡ whole.object }
-    ensures follows { FollowsOn spot.place link state.old state.new }
+    ensures { FollowsOn link state.old state.new }
 {
     state.free.follow(link);
-    state.objects.vacate(spot.start as usize, whole)
-}
-
-/// The place of a filling, with this object, leaves the lane: it stands here, and is among the lane's rights.
-#[inline]
-pub(crate) fn give_out<T: Drop>(
-    state: &mut LaneState<T>,
-    spot: Spot,
-    object: Box<T, Global>,
-) -> Whole<T>
-    requires shape { IsShape state.old.shape }
-    requires spot { IsSpot state.old.shape spot spot.place }
-    requires own { shard_of spot.place ≡ state.old.free.shard }
-    requires begins { state.old.objects.first ≡ shard_start state.old.shape state.old.free.shard }
-    requires right { slice_get state.old.objects.rights (index_of state.old.shape spot.place) ≡ Some true }
-    ensures whole { (result.spot ≡ spots_at state.old.objects.directory state.old.shape spot.place) × (result.object ≡ object.value) }
-    ensures gives { GivesOut spot.place state.old state.new }
-{
-    // A look at the list tells that its places are the lane's.
-    let _ = state.free.len();
-    state.objects.put(spot.start as usize, object)
 }
 
 /// The place that a word leads to becomes the first of the taken chain.
@@ -131,7 +98,7 @@ pub(crate) fn hang<T: Drop>(state: &mut LaneState<T>, found: u64)
 }
 
 /// The next page is opened: its places, each with the object given for it, are the lane's list.
-pub(crate) fn open_next<T: Clear + Drop>(state: &mut LaneState<T>, objects: Vec<Box<T, Global>>)
+pub(crate) fn open_next<T: Clear + Drop>(state: &mut LaneState<T>, objects: Vec<T>)
     requires shape { IsShape state.old.shape }
     requires lane { state.old.number < state.old.shape.lanes }
     requires lists { (state.old.free.shard ≡ state.old.number)
@@ -144,7 +111,7 @@ pub(crate) fn open_next<T: Clear + Drop>(state: &mut LaneState<T>, objects: Vec<
     requires own { state.old.free.own ≡ [] }
     requires chain { state.old.free.chain ≡ None }
     requires count { length objects.items ≡ page_size state.old.shape state.old.pages.opened }
-    requires empty { All (λ object. T.content object.value ≡ []) objects.items }
+    requires empty { All (λ object. T.content object ≡ []) objects.items }
     requires rights { (place : ℕ) → is_place state.old.shape place ≡ true → shard_of place ≡ state.old.number
         → page_of place ≡ state.old.pages.opened
         → slice_get state.old.objects.rights (index_of state.old.shape place) ≡ Some true }

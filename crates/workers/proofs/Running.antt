@@ -139,7 +139,7 @@ module _ {pool : PoolOf} {lane : LaneOf} {rs : List Register} (register : Number
   now_filling = record filling { object = object }
 
   now-made : Made lane now_filling
-  now-made = let made = tidy.made register.number filling is in record { table = made.table; start = made.start; place = made.place; may = made.may; emptied = made.emptied }
+  now-made = let made = tidy.made register.number filling is in record { table = made.table; directory = made.directory; start = made.start; place = made.place; may = made.may; emptied = made.emptied }
 
   written : object.bytes ≡ filling.object.bytes ++ bytes → filling.object.room ≤ object.room
       → Runs pool (desk lane rs) (Write register bytes) replies.Done (desk lane (with_held rs register.number (Filling now_filling)))

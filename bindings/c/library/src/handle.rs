@@ -174,7 +174,8 @@ impl Handle {
 
     /// A filling ends unpublished. Its place stays filling until the pool is closed.
     pub(crate) fn leave(&mut self, key: u64) -> Result<(), Refusal> {
-        self.take(key)?.forget();
+        let filling = self.take(key)?;
+        self.lane.leave(filling);
         Ok(())
     }
 
@@ -281,7 +282,7 @@ impl Handle {
     /// Gives the fillings up, whose places stay filling.
     pub(crate) fn leave_all(&mut self) {
         for filling in self.fillings.drain(..) {
-            filling.forget();
+            self.lane.leave(filling);
         }
     }
 }

@@ -213,7 +213,8 @@ impl<'l, T: Clear> Begun<'l, T, InHand<T>> {
     /// Leaves its place as it is. The object is emptied, and used in another place.
     pub(crate) fn forget(self) {
         let own = self.own();
-        let (_, _, block) = self.into_words();
+        let (_, (_, start), block) = self.into_words();
+        own.leave(start);
         own.let_go(block);
     }
 }

@@ -43,10 +43,8 @@ pub(crate) use token::{Begun, Held, InHand, OfThread, Spent};
 
 use crate::erased::shardpool;
 use crate::object::Object;
-use crate::shim::{self, Global};
 
 type ProvedPool<T> = shardpool::Pool<Object<T>>;
 type ProvedLane<T> = shardpool::Lane<Object<T>>;
 type ProvedFilling<T> = shardpool::Filling<Object<T>>;
 type ProvedRef<T> = shardpool::Ref<Object<T>>;
-type ProvedBox<T> = shim::Box<Object<T>, Global>;

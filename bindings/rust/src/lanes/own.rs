@@ -67,6 +67,11 @@ impl<'s, T: Clear, P: Stands<'s, T>> Own<'s, T, P> {
         }
     }
 
+    /// The place of a filling that isn't published is back for the close.
+    pub(super) fn leave(self, start: u64) {
+        self.turn().leave(start);
+    }
+
     /// Empties an object that was taken out of a place of this segment.
     #[inline(always)]
     pub(super) fn let_go(self, mut block: Block<T>) {

@@ -1,18 +1,19 @@
 //! The calls of the proved pool. None runs code of `T`: what a call takes out of a place comes back as a block.
 use super::seat::{Post, Stands, Store};
 use super::token::{Begun, By, Held};
-use super::{ProvedBox, ProvedFilling, ProvedLane, ProvedPool, ProvedRef};
+use super::{ProvedFilling, ProvedLane, ProvedPool, ProvedRef};
 use crate::clear::Clear;
-use crate::erased::poolsteps::stack_word;
+use crate::erased::poolsteps::{stack_word, Whole};
 use crate::erased::shardpool::{self, CreateFault, MOST_REFERENCES};
 use crate::errors::{CreateError, MemoryRefused};
 use crate::key::Key;
 use crate::object::{self, Block, Chain, Chunk, Crowded, Object};
-use crate::shim::Ready;
+use crate::shim::{Global, Ready};
 use crate::sync::{self, AtomicU32, Ordering};
 use std::marker::PhantomData;
 use std::mem;
 use std::process;
+use std::ptr::NonNull;
 
 /// A call of the proved pool under way. None panics; if one did, it would leave a torn lane, so that ends the process.
 pub(super) struct Call;
@@ -28,6 +29,14 @@ impl Drop for Call {
     fn drop(&mut self) {
         process::abort();
     }
+}
+
+/// The cell of a filling's place, as the proved calls have it: it has no bytes.
+#[inline(always)]
+fn cell<T>() -> Whole<Object<T>> {
+    const { assert!(mem::size_of::<Whole<Object<T>>>() == 0) };
+    // SAFETY: it has no bytes, and who calls this has the filling of the place.
+    unsafe { NonNull::<Whole<Object<T>>>::dangling().as_ptr().read() }
 }
 
 /// The lane has as many references as it may.
@@ -74,7 +83,7 @@ fn back_with<T>(
     block: Block<T>,
     ready: &mut Option<Ready>,
 ) -> Result<Block<T>, CreateError> {
-    *ready = Some(Ready::new::<ProvedBox<T>>(page).ok_or(CreateError::Memory)?);
+    *ready = Some(Ready::new::<Object<T>>(page).ok_or(CreateError::Memory)?);
     Ok(block)
 }
 
@@ -271,7 +280,7 @@ impl<'s, T: Clear, P: Stands<'s, T>> Turn<'s, T, P> {
         let page = self.next_page();
         let ready = match (page, ready) {
             (None, _) => None,
-            (Some(page), Some(ready)) if ready.is_for::<ProvedBox<T>>(page) => Some(ready),
+            (Some(page), Some(ready)) if ready.is_for::<Object<T>>(page) => Some(ready),
             (Some(page), _) => return Err(Apart::Page(page, block)),
         };
         let (pool, lane, call) = self.proved();
@@ -309,14 +318,13 @@ impl<'s, T: Clear, P: Stands<'s, T>> Turn<'s, T, P> {
         created: Result<ProvedFilling<T>, CreateFault>,
         block: Block<T>,
     ) -> Result<Begun<'s, T, W>, CreateError> {
-        let (key, start, empty) = match created {
+        let (key, start, _) = match created {
             Ok(proved) => proved.spend(),
             Err(fault) => {
                 self.put_away(block);
                 return Err(fault.into());
             }
         };
-        mem::forget(empty);
         add(&self.post().seat().fillings, 1);
         Ok(Begun::new(
             self.post(),
@@ -331,7 +339,16 @@ impl<'s, T: Clear, P: Stands<'s, T>> Turn<'s, T, P> {
     fn spend<W>(&mut self, begun: Begun<'_, T, W>) -> ProvedFilling<T> {
         add(&self.post().seat().fillings, u32::MAX);
         let (key, start, block) = begun.into_proved();
-        shardpool::Filling::of(&self.lane().hand, key, start, Object::boxed(block))
+        let lane = self.lane();
+        let directory = lane.state.objects.base();
+        let mut proved = shardpool::Filling::of(&lane.hand, key, start, directory, cell(), Global);
+        proved.value_mut().hook(block);
+        proved
+    }
+
+    /// The place of a filling that isn't published is back for the close.
+    pub(super) fn leave(&mut self, start: u64) {
+        self.lane().state.objects.bring_back(start as usize, cell());
     }
 
     /// Publishes a filling.

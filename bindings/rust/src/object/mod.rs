@@ -9,7 +9,7 @@ pub(crate) use chunk::{Chunk, Chunks, Crowded};
 pub(crate) use memory::{Counted, Fixed, Later};
 
 use crate::erased::slotcell;
-use crate::shim::{self, Global};
+use crate::shim::Global;
 use crate::sync::{self, thread_local};
 use block::{address, Body, BODY};
 use std::cell::Cell;
@@ -63,17 +63,11 @@ unsafe impl<T: Send> Send for Object<T> {}
 unsafe impl<T: Sync> Sync for Object<T> {}
 
 impl<T> Object<T> {
-    /// A block as the proved pool's fillings have it: in a word of its own, which takes no memory.
+    /// Puts a block into an object that has none.
     #[inline]
-    pub(crate) fn boxed(block: Block<T>) -> shim::Box<Object<T>, Global> {
-        let object = Object {
-            body: Some(block.into_body()),
-            owns: PhantomData,
-        };
-        match shim::Box::new(Global, object) {
-            Ok(boxed) => boxed,
-            Err(_) => shim::impossible!(),
-        }
+    pub(crate) fn hook(&mut self, block: Block<T>) {
+        debug_assert!(self.body.is_none());
+        self.body = Some(block.into_body());
     }
 
     /// Where the object stands.
@@ -103,6 +97,9 @@ impl<T> Object<T> {
 }
 
 impl<T> slotcell::Clear for Object<T> {
+    // (A pointer, and none is zeros.)
+    const ZEROS: bool = true;
+
     #[inline]
     fn fresh(_: Global) -> Object<T> {
         Object {

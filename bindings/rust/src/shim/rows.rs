@@ -1,7 +1,7 @@
 //! Rows of values.
 
 use super::check;
-use super::heap::{self, free, zeroed, AllocError, AllocFailed, Global};
+use super::heap::{self, free, zeroed, AllocError, Global};
 use super::ready;
 use std::alloc::Layout;
 use std::fmt;
@@ -69,6 +69,26 @@ impl<T> Vec<T> {
         self.items.resize_with(length, make);
     }
 
+    /// Appends so many empty objects, for which there is room. `zeros` tells that each of their bytes is written, and 0: where zeros are
+    /// there, they aren't written.
+    #[inline]
+    pub(crate) fn push_fresh(
+        &mut self,
+        count: impl TryInto<usize>,
+        zeros: bool,
+        make: impl Fn() -> T,
+    ) {
+        let count = count.try_into().unwrap_or(usize::MAX);
+        let length = self.items.len().saturating_add(count);
+        assert!(length <= self.items.capacity(), "out of range");
+        if zeros && self.clean {
+            // SAFETY: the memory is there, and zeroed, so that each item has the bytes of an empty object.
+            unsafe { self.items.set_len(length) };
+            return;
+        }
+        self.items.resize_with(length, make);
+    }
+
     /// Appends a value, for which there is room.
     #[inline(always)]
     pub(crate) fn push_reserved(&mut self, value: T) {
@@ -79,16 +99,6 @@ impl<T> Vec<T> {
             self.items.as_mut_ptr().add(length).write(value);
             self.items.set_len(length + 1);
         }
-    }
-
-    /// Appends a value. For want of memory it comes back.
-    #[inline]
-    pub(crate) fn push(&mut self, value: T) -> Result<(), AllocFailed<T>> {
-        if self.reserve(1).is_err() {
-            return Err(AllocFailed { value });
-        }
-        self.push_reserved(value);
-        Ok(())
     }
 
     /// Makes room for so many more.

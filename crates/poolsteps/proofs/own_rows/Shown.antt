@@ -7,7 +7,7 @@ use Rattle.std.proofs.lemmas.Option.{slice_get-map, get_or_from_slice_get, slice
 use Rattle.std.proofs.Math.Seq.{map-set_same, take-set-lt}
 use denote.RawPtr.{Ptr}
 use Rattle.poolsteps.specs.declared.rows.Own.{Own}
-use Rattle.poolsteps.specs.declared.rows.Own.TheVariants.{Away, Vacant, Retired, Whole}
+use Rattle.poolsteps.specs.declared.rows.Own.TheVariants.{Away, Unused, Back, Whole}
 use Rattle.poolsteps.specs.Objects.{ObjectsOf}
 use Rattle.poolsteps.specs.Rows.{object_in, is_here, IsOwnOf, AreRows}
 use Rattle.poolsteps.proofs.own_rows.RowLemmas.{set-each, get-take}
@@ -15,16 +15,16 @@ use Rattle.poolsteps.proofs.own_rows.RowLemmas.{set-each, get-take}
 -- where no right is in use, no object waits
 pub nothing-in : {T : Type 0} (own : Own T) → is_here own ≡ false → object_in own ≡ None
 nothing-in Away none = refl
-nothing-in (Vacant _) none = absurd (cc none)
-nothing-in (Retired _) none = refl
+nothing-in (Unused _) none = absurd (cc none)
+nothing-in (Back _) none = refl
 nothing-in (Whole _) none = absurd (cc none)
 
-module _ {T : Type 0} (directory : Ptr) (first places total : ℕ) (row : List (Own T)) where
+module _ {T : Type 0} (directory : Ptr) (first places : ℕ) (row : List (Own T)) where
   -- what is seen of the row
   abbrev pub shown : ObjectsOf T
-  shown = record { directory = directory; first = first; items = take places (map object_in row); rights = take places (map is_here row); wide = total }
+  shown = record { directory = directory; first = first; items = take places (map object_in row); rights = take places (map is_here row) }
 
-  module _ {kept : Ptr} (rows : AreRows directory first places row kept) where
+  module _ (rows : AreRows directory first places row) where
     -- as many items are seen as there are own places
     pub items-seen : length (take places (map object_in row)) ≡ places
     items-seen = length-take-le places (map object_in row) (let long = length-map row object_in in let room = rows.room in omega (arith, long, room))
@@ -38,7 +38,7 @@ module _ {T : Type 0} (directory : Ptr) (first places total : ℕ) (row : List (
     pub start-low : v.first ≤ start → first ≤ start
     start-low low = subst (λ (n : ℕ). n ≤ start) (sym (ap (λ (w : ObjectsOf T). w.first) is)) low
 
-    module _ {kept : Ptr} (rows : AreRows directory first places row kept) where
+    module _ (rows : AreRows directory first places row) where
       pub start-high : start < v.first + length v.items → start < first + places
       start-high high =
           let long = items-seen rows in
@@ -58,31 +58,31 @@ module _ {T : Type 0} (directory : Ptr) (first places total : ℕ) (row : List (
     pub right-at : slice_get v.rights (start - v.first) ≡ Some true → slice_get (take places (map is_here row)) (start - first) ≡ Some true
     right-at at = subst (λ (w : ObjectsOf T). slice_get w.rights (start - w.first) ≡ Some true) (sym is) at
 
-module _ {T : Type 0} (directory : Ptr) (first places total : ℕ) (row : List (Own T)) (start : ℕ) where
+module _ {T : Type 0} (directory : Ptr) (first places : ℕ) (row : List (Own T)) (start : ℕ) where
   -- a place's own right may be written
-  pub rows-set : {kept : Ptr} → first ≤ start → (own : Own T) → IsOwnOf directory start own → AreRows directory first places row kept
-      → AreRows directory first places (slice_set row (start - first) own) kept
+  pub rows-set : first ≤ start → (own : Own T) → IsOwnOf directory start own → AreRows directory first places row
+      → AreRows directory first places (slice_set row (start - first) own)
   rows-set low own is rows =
       let there : start ≡ first + (start - first) = omega (arith, low) in record {
         own = set-each (λ j o. IsOwnOf directory (first + j) o) row (start - first) own (subst (λ (n : ℕ). IsOwnOf directory n own) there is) (λ j z _ at. rows.own j z at);
         room = let same = length-set row (start - first) own in let room = rows.room in omega (arith, same, room);
-        keeps = rows.keeps;
+        fits = let same = length-set row (start - first) own in let fits = rows.fits in omega (arith, same, fits);
       }
 
   -- what stands in the row is of its place
-  pub own-at : {kept : Ptr} → first ≤ start → AreRows directory first places row kept → (own : Own T) → slice_get row (start - first) ≡ Some own → IsOwnOf directory start own
+  pub own-at : first ≤ start → AreRows directory first places row → (own : Own T) → slice_get row (start - first) ≡ Some own → IsOwnOf directory start own
   own-at low rows own at =
       let there : first + (start - first) ≡ start = omega (arith, low) in
       subst (λ (n : ℕ). IsOwnOf directory n own) there (rows.own (start - first) own at)
 
   -- where nothing of what is seen of an entry is changed, all is seen as before
   pub shown-kept : (own old : Own T) → slice_get row (start - first) ≡ Some old → object_in own ≡ object_in old → is_here own ≡ is_here old
-      → shown directory first places total (slice_set row (start - first) own) ≡ shown directory first places total row
+      → shown directory first places (slice_set row (start - first) own) ≡ shown directory first places row
   shown-kept own old at object here =
       let stood = sym (get_or_from_slice_get row (start - first) old old at) in
       let items = map-set_same object_in row (start - first) own old (object ∙ ap object_in stood) in
       let rights = map-set_same is_here row (start - first) own old (here ∙ ap is_here stood) in
-      λ k. record { directory = directory; first = first; items = take places (items k); rights = take places (rights k); wide = total }
+      λ k. record { directory = directory; first = first; items = take places (items k); rights = take places (rights k) }
 
   module _ (low : first ≤ start) (high : start < first + places) where
     below : start - first < places
@@ -99,30 +99,21 @@ module _ {T : Type 0} (directory : Ptr) (first places total : ℕ) (row : List (
     take-map-set : {Y : Type 0} (f : Own T → Y) (own : Own T) → take places (map f (slice_set row (start - first) own)) ≡ slice_set (take places (map f row)) (start - first) (f own)
     take-map-set f own = ap (take places) (map-set f row (start - first) own) ∙ take-set-lt places (map f row) (start - first) (f own) below
 
-    pub shown-set : (own : Own T) → shown directory first places total (slice_set row (start - first) own)
-        ≡ record (shown directory first places total row) {
+    pub shown-set : (own : Own T) → shown directory first places (slice_set row (start - first) own)
+        ≡ record (shown directory first places row) {
           items = slice_set (take places (map object_in row)) (start - first) (object_in own);
           rights = slice_set (take places (map is_here row)) (start - first) (is_here own);
         }
     shown-set own =
         let items = take-map-set object_in own in
         let rights = take-map-set is_here own in
-        λ k. record { directory = directory; first = first; items = items k; rights = rights k; wide = total }
-
-    -- where the right was here and stays, or is away as before
-    pub shown-stay : (own old : Own T) → slice_get row (start - first) ≡ Some old → is_here own ≡ is_here old
-        → shown directory first places total (slice_set row (start - first) own)
-        ≡ record (shown directory first places total row) { items = slice_set (take places (map object_in row)) (start - first) (object_in own) }
-    shown-stay own old at same =
-        let items = take-map-set object_in own in
-        let rights = map-set_same is_here row (start - first) own old (same ∙ ap is_here (sym (get_or_from_slice_get row (start - first) old old at))) in
-        λ k. record { directory = directory; first = first; items = items k; rights = take places (rights k); wide = total }
+        λ k. record { directory = directory; first = first; items = items k; rights = rights k }
 
     pub shown-here : (own : Own T) → slice_get (take places (map is_here row)) (start - first) ≡ Some true → is_here own ≡ true
-        → shown directory first places total (slice_set row (start - first) own)
-        ≡ record (shown directory first places total row) { items = slice_set (take places (map object_in row)) (start - first) (object_in own) }
+        → shown directory first places (slice_set row (start - first) own)
+        ≡ record (shown directory first places row) { items = slice_set (take places (map object_in row)) (start - first) (object_in own) }
     shown-here own at here =
         let had = take places (map is_here row) in
         let items = take-map-set object_in own in
         let rights = take-map-set is_here own ∙ (ap (set had (start - first)) (here ∙ sym (get_or_from_slice_get had (start - first) true true at)) ∙ set-get_or had (start - first) true) in
-        λ k. record { directory = directory; first = first; items = items k; rights = rights k; wide = total }
+        λ k. record { directory = directory; first = first; items = items k; rights = rights k }

@@ -48,6 +48,7 @@ module _ {T : Type 0} (z : Shape) where
       → HasCell spots z new place word
   cell-stays old new place word inside same h = record {
     resting = λ none. resting-stays old new place inside same (h.resting none);
+    retired = λ bits. resting-stays old new place inside same (h.retired bits);
     spread = λ bits. spread-stays old new place same (h.spread bits);
   }
 
@@ -55,6 +56,7 @@ module _ {T : Type 0} (z : Shape) where
   no-cell-stays : (old new : List (Option (Share T))) (place word : ℕ) → is_place z place ≡ true → SameSlots old new place → HasNoCell z old place word → HasNoCell z new place word
   no-cell-stays old new place word inside same h = record {
     unrested = λ none. same (shard_of place) (is_place-parts z place inside).0 ∙ h.unrested none;
+    unretired = λ bits. same (shard_of place) (is_place-parts z place inside).0 ∙ h.unretired bits;
     unspread = λ bits lane low. same lane low ∙ h.unspread bits lane low;
   }
 
@@ -63,6 +65,7 @@ module _ {T : Type 0} (z : Shape) where
   drained-stays history lanes old new place inside same h = record {
     spread = λ content references mark is lane low. same lane low ∙ h.spread content references mark is lane low;
     returned = λ is. here ∙ h.returned is;
+    retires = λ is. here ∙ h.retires is;
     taken = λ index lane at among. here ∙ h.taken index lane at among;
   }
     where
@@ -126,6 +129,7 @@ module _ {T : Type 0} (z : Shape) where
         let bits_are = (idle place inside of_shard high).1 in
         record {
           unrested = λ none. absurd (some none);
+          unretired = λ two. absurd (omega (arith, two, bits_are));
           unspread = λ bits. absurd (⊎_elim (λ one. omega (arith, one, bits_are)) (λ three. omega (arith, three, bits_are)) bits);
         })
         (cases_lt (index_of z place) index);

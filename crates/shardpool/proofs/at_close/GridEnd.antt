@@ -13,13 +13,15 @@ use Rattle.keybits.specs.declared.shape.Shape.{Shape}
 use Rattle.poolsteps.specs.Share.{Share}
 use Rattle.poolsteps.specs.declared.grid.Grid.{Grid}
 use Rattle.poolsteps.specs.declared.view.View.{View}
-use Rattle.poolsteps.specs.Layout.{words_in, slot_row, spots_at}
+use Rattle.poolsteps.specs.Layout.{words_in, shard_start, spots_at}
+use Rattle.keybits.specs.Shapes.{shard_places}
 use Rattle.poolsteps.specs.Rule.{World}
 use Rattle.poolsteps.specs.Grids.{AreHands, EndsWith}
 use Rattle.shardpool.specs.declared.pool.LaneState.{LaneState}
 use Rattle.shardpool.specs.Tokens.{LaneOf}
 use Rattle.shardpool.specs.LaneStates.{Fits}
 use Rattle.shardpool.specs.Closings.{AreLanes, IsLast, IsLastHistory, AreLast}
+use Rattle.shardpool.specs.Stores.{AreOfShard}
 use Rattle.shardpool.specs.Remains.{MayHandBack, IsStripped, AreStripped, HandsBack, HasCells}
 use Rattle.shardpool.specs.Partings.{AreParted}
 use Rattle.shardpool.proofs.frame.LaneFacts.{lane_of}
@@ -66,27 +68,28 @@ module _ {T : Type 0} {content : T → List ℕ} {room : T → ℕ} (grid : Grid
         );
   }
 
-  -- what a lane has of objects is of the grid's directory, and has room for all places
-  its-objects : (index : ℕ) (s : LaneState T) → slice_get states index ≡ Some s → (s.objects.directory ≡ grid.objects.ptr) × (s.objects.wide ≡ slot_row grid.shape)
+  -- what a lane has of objects is of the grid's directory, and of the places of its shard
+  its-objects : (index : ℕ) (s : LaneState T) → slice_get states index ≡ Some s → (s.objects.directory ≡ grid.objects.ptr) × AreOfShard grid.shape s.number s.objects
   its-objects index s at =
       let low = slice_get_within states index s at in
       let same = parted.count.0 in let wide = parted.count.1 in
       let lane = entry-at lanes index (omega (arith, low, wide)) in
       let hand = entry-at hands index (omega (arith, low, same, wide)) in
       let is = parted.each index lane.0 hand.0 s lane.1 hand.1 at in
-      let owned = are.owned index lane.0 lane.1 in (
+      let owned = are.owned index lane.0 lane.1 in
+      let shape = sym (ap (λ (l : LaneOf). l.shape) is.lane_is) ∙ owned.1 in (
         sym (ap (λ (l : LaneOf). l.directory) is.lane_is) ∙ owned.2,
-        is.fits.rights.wide ∙ ap slot_row (sym (ap (λ (l : LaneOf). l.shape) is.lane_is) ∙ owned.1),
+        (is.fits.rights.first_is ∙ ap (λ (y : Shape). shard_start y s.number) shape, is.fits.stores.narrow ∙ ap shard_places shape),
       )
 
   -- so are those of the states without their rows
-  pub are-objects : (left : List (LaneState T)) → AreStripped states left → All (λ s. (s.objects.directory ≡ grid.objects.ptr) × (s.objects.wide ≡ slot_row grid.shape)) left
+  pub are-objects : (left : List (LaneState T)) → AreStripped states left → All (λ s. (s.objects.directory ≡ grid.objects.ptr) × AreOfShard grid.shape s.number s.objects) left
   are-objects left stripped k d low =
       let one : LaneState T = get_or left k d in
       let state = stripped.1 k one (slice_get-get_or left k d low) in
       let is = its-objects k state.0 state.1 in (
         (λ i. (state.2 i).objects.directory) ∙ is.0,
-        (λ i. (state.2 i).objects.wide) ∙ is.1,
+        ((λ i. (state.2 i).objects.first) ∙ (is.1.0 ∙ ap (shard_start grid.shape) (λ i. (sym state.2 i).number)), (λ i. length (state.2 i).objects.items) ∙ is.1.1),
       )
 
   -- and there are as many as lanes

@@ -38,8 +38,12 @@ use Rattle.shardpool.specs.Tokens.{LaneOf}
 use Rattle.shardpool.specs.Closings.{AreLanes}
 use Rattle.shardpool.specs.Remains.{MayHandBack, HandsBack, HasCells}
 use Rattle.shardpool.proofs.count.Rounds.{same-index}
-use Rattle.shardpool.proofs.at_close.LaneParts.{still-refs, lane-last}
+use Rattle.shardpool.proofs.at_close.LaneParts.{still-refs, lane-last, own-mine}
 use Rattle.shardpool.proofs.at_close.LastHistory.{IsEnded, entry-at}
+use Rattle.shardpool.specs.Places.{has_retired}
+use Rattle.shardpool.proofs.frame.RetiredPlaces.{retired-by-one}
+use Rattle.seqpool.specs.declared.act.Act.{Act}
+use Rattle.seqpool.specs.Histories.{acts_of}
 
 -- ---- phases and numbers
 
@@ -249,6 +253,26 @@ module _ {T : Type 0} {content : T → List ℕ} {room : T → ℕ} {z : Shape} 
           let rests = subst (RestsAs content room (spots_at directory z) (slots_in z homes) place (shard_of place) (w.stock.stored place)) (eq-eqb (shard_of place) (shard_of place) refl) stands in
           record { cell = (w.stock.stored place).cell; part = part-now (shard_of place) 0 1 shard-low (ap (λ (f : Phase). references_in f (shard_of place)) is) rests }
 
+      -- so has a retired one, which a lane left so
+      retired-now : phase-at z w place ≡ retired → IsResting (spots_at directory z) z (slots_items new) place
+      retired-now is =
+          let one = retired-by-one z w.history place rule.legal is in
+          let f = state-of-number one.0 one.1 in
+          let lane : LaneOf = f.1 in
+          let e = f.4 in
+          let l : ℕ = (the_lane lane.book).lane in
+          let low : l < z.lanes = subst (λ (n : ℕ). n < z.lanes) e.fits.seat.number_is e.fits.seat.below in
+          let mine : has_retired z place (the_lane lane.book).mine false ≡ true
+          = ap (λ (xs : List Act). has_retired z place xs false) (own-mine rule lane.table e.fits e.seen e.record_is)
+          ∙ (ap (λ (n : ℕ). has_retired z place (acts_of n w.history) false) f.5 ∙ one.2) in
+          let status : w.stock.status l place (shard_of place) ≡ Whole =
+          sym (e.record_is.deeds place (shard_of place))
+          ∙ (e.fits.seat.retires place inside mine (shard_of place) shard-low ∙ ap (λ (b : Bool). cond b Whole Emptied) (eq-eqb (shard_of place) (shard_of place) refl)) in
+          record {
+            cell = (w.stock.stored place).cell;
+            part = part-now (shard_of place) 0 1 shard-low (ap (λ (f : Phase). references_in f (shard_of place)) is) (shared.whole l place (shard_of place) low inside shard-low status);
+          }
+
       -- and so has one of a taken chain
       chained-now : (index : ℕ) (lane : LaneOf) → slice_get lanes index ≡ Some lane → has (the_lane lane.book).chain place ≡ true → IsResting (spots_at directory z) z (slots_items new) place
       chained-now index lane at among =
@@ -270,5 +294,6 @@ module _ {T : Type 0} {content : T → List ℕ} {room : T → ℕ} {z : Shape} 
     has-cells = record {
       spread = spread-now;
       returned = home-now;
+      retires = retired-now;
       taken = λ index lane place inside at among. chained-now place inside index lane at among;
     }

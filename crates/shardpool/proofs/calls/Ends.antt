@@ -1,5 +1,5 @@
 -- What a call that left a place, and perhaps reclaimed it, leaves of what the lane keeps.
-use Rattle.std.proofs.Common.{◌≡◌, ◌≢◌, ℕ, ◌<◌, Bool, true, false, not, ◌&&◌, cond, eqb, List, [], ◌∷◌, ◌++◌, Option, Some, None, IfSome, refl, sym, ap, ◌∙◌, subst, arith, append_assoc, append-nil, eq-eqb, ne_eqb}
+use Rattle.std.proofs.Common.{◌≡◌, ◌≢◌, ℕ, ◌<◌, Bool, true, false, not, ◌&&◌, cond, eqb, List, [], ◌∷◌, ◌++◌, Option, Some, None, IfSome, refl, sym, ap, ◌∙◌, subst, arith, append_assoc, append-nil, eq-eqb, ne_eqb, inl}
 use Rattle.std.specs.Prelude.{slice_set, slice_index}
 use Rattle.std.proofs.lemmas.List.{append_cancel_left}
 use Rattle.std.specs.List.{All}
@@ -21,7 +21,7 @@ use Rattle.seqpool.proofs.Growth.{legal-rest}
 use Rattle.seqpool.proofs.Ranks.{current-key}
 use Rattle.seqpool.specs.Histories.{acts_of}
 use Rattle.steplaws.specs.StepLaws.{reclaim}
-use Rattle.poolsteps.specs.PlaceLaws.{gives_away, brings}
+use Rattle.poolsteps.specs.PlaceLaws.{gives_away}
 use Rattle.poolsteps.specs.declared.grid.Grid.{Grid}
 use Rattle.poolsteps.specs.declared.grid.Spot.{Spot}
 use Rattle.poolsteps.specs.Grids.{IsSpot}
@@ -38,12 +38,12 @@ use Rattle.shardpool.specs.declared.reclaim.Reclaimed.{Reclaimed}
 use Rattle.shardpool.specs.declared.reclaim.Reclaimed.TheVariants.{Own, Returned, Retired}
 use Rattle.shardpool.specs.Acted.{Acted}
 use Rattle.shardpool.specs.AtPlace.{MayAct}
-use Rattle.poolsteps.specs.Layout.{slot_row, shard_start, spots_at}
+use Rattle.poolsteps.specs.Layout.{shard_start, spots_at}
 use denote.RawPtr.{Ptr}
 use Rattle.poolsteps.specs.Spot.{Spot as CellSpot}
 use Rattle.shardpool.specs.Called.{Did, IsReclaimed, StandsAt, EndsWithActs, FitsGeneration, MovedNothing, end_acts, end_pushed}
 use Rattle.shardpool.specs.declared.pool.LaneState.{LaneState}
-use Rattle.shardpool.specs.Places.{held_after, left_with}
+use Rattle.shardpool.specs.Places.{held_after, has_retired}
 use Rattle.shardpool.specs.LaneStates.{FitsSeat, FitsTops, FitsStores, FitsRights, IsHeld, FitsRows, Fits}
 use Rattle.shardpool.specs.Stores.{Keeps}
 use Rattle.shardpool.specs.Finishes.{IsKeeper, MayKeep}
@@ -52,11 +52,12 @@ use Rattle.shardpool.proofs.frame.OtherShards.{NoneAbroad, abroad-append, abroad
 use Rattle.shardpool.proofs.frame.Frames.{Passes, OnlyAt}
 use Rattle.shardpool.proofs.frame.LaneFrames.{passes-did, passes-still, onlyat-append, onlyat-end}
 use Rattle.shardpool.proofs.frame.KeptPlaces.{seat-passes, last_pushed-same, last_pushed-pushed}
-use Rattle.shardpool.proofs.free.Rights.{rights-still, rights-kept, rights-gone, elsewhere-unbrought, returned-away, retired-away}
+use Rattle.shardpool.proofs.free.Rights.{rights-set}
 use Rattle.shardpool.proofs.free.Stores.{FitsShelf, IsKeepable, stores-still, stores-apart, stores-reclaimed, alone-apart, apart-away}
 use Rattle.shardpool.proofs.frame.BlankPlaces.{reclaimed-with, last-of}
 use Rattle.shardpool.proofs.references.Rows.{rows-pass, held-append}
 use Rattle.shardpool.proofs.references.RowChanges.{end-refs, end-held}
+use Rattle.shardpool.proofs.frame.RetiredPlaces.{Retires, retires-else, reclaimed-unretired, returned-unretired}
 
 -- what the lane keeps beside its rows fits what it has seen and did
 pub record FitsBeside {T : Type 0} (content : T → List ℕ) (room : T → ℕ) (z : Shape) (v : View) (s : LaneState T) : Type 0 where
@@ -65,7 +66,7 @@ pub record FitsBeside {T : Type 0} (content : T → List ℕ) (room : T → ℕ)
   pub seat : FitsSeat z v s.number
   pub last_pushed : FitsTops z v s.last_pushed.items
   pub stores : FitsStores content room z v s.free s.pages s.objects.items
-  pub rights : FitsRights z v s.objects
+  pub rights : FitsRights z s.number s.pages.opened s.objects
 
 pub fits-beside : {T : Type 0} {content : T → List ℕ} {room : T → ℕ} {z : Shape} {v : View} {s : LaneState T} → Fits content room z v s → FitsBeside content room z v s
 fits-beside fits = record { shape_is = fits.shape_is; placed = fits.placed; seat = fits.seat; last_pushed = fits.last_pushed; stores = fits.stores; rights = fits.rights }
@@ -74,14 +75,6 @@ fits-beside fits = record { shape_is = fits.shape_is; placed = fits.placed; seat
 pub own-placed : {T : Type 0} {content : T → List ℕ} {room : T → ℕ} {z : Shape} {v : View} {s : LaneState T} → FitsBeside content room z v s
     → s.places.shape ≡ s.shape
 own-placed fits = fits.placed ∙ sym fits.shape_is
-
--- its rows of rights begin where its shard does
-pub own-begins : {T : Type 0} {content : T → List ℕ} {room : T → ℕ} {z : Shape} {v : View} {s : LaneState T} → FitsBeside content room z v s
-    → (s.objects.first ≡ shard_start s.shape s.free.shard) × (s.objects.wide ≡ slot_row s.shape)
-own-begins fits = (
-  fits.rights.first_is ∙ (λ i. shard_start (sym fits.shape_is i) (sym fits.stores.lists.0 i)),
-  fits.rights.wide ∙ ap slot_row (sym fits.shape_is),
-)
 
 -- after steps by which the lane pushed nothing, it can keep what becomes of a place
 pub keeper : {T : Type 0} {content : T → List ℕ} {room : T → ℕ} {z : Shape} {v w : View} {s : LaneState T} {directory : Ptr} {place : ℕ} → FitsBeside content room z v s
@@ -93,7 +86,7 @@ keeper {z = z} {place = place} fits directory inside lane pushed =
       directory_is = directory;
       narrow = fits.stores.narrow;
       wide = fits.last_pushed.wide;
-      begins = (fits.rights.first_is ∙ ap (shard_start z) (sym fits.stores.lists.0), fits.rights.wide);
+      begins = fits.rights.first_is ∙ ap (shard_start z) (fits.seat.number_is ∙ sym fits.stores.lists.0);
       lane = fits.seat.number_is ∙ sym lane;
       below = fits.seat.below;
       top = fits.last_pushed.each (shard_of place) shard ∙ ap (λ (pushes : List (ℕ × ℕ)). pushed_in pushes (shard_of place)) (sym pushed);
@@ -217,7 +210,7 @@ module _ {T : Type 0} {content : T → List ℕ} {room : T → ℕ} {z : Shape} 
   last_pushed-by t place (Some (Own whole)) inside pushed kept = subst (λ (x : LaneState T). FitsTops z w x.last_pushed.items) (sym kept.rest) (last_pushed-same fits.last_pushed pushed)
   last_pushed-by t place (Some Returned) inside pushed kept =
       subst (λ (x : List ℕ). FitsTops z w x) (sym kept.last_pushed) (last_pushed-pushed fits.last_pushed pushed (is_place-parts z place inside).0)
-  last_pushed-by t place (Some (Retired vacancy)) inside pushed kept = subst (λ (x : LaneState T). FitsTops z w x.last_pushed.items) (sym kept) (last_pushed-same fits.last_pushed pushed)
+  last_pushed-by t place (Some Retired) inside pushed kept = subst (λ (x : LaneState T). FitsTops z w x.last_pushed.items) (sym kept) (last_pushed-same fits.last_pushed pushed)
 
 -- the rest of the state stays
 pub rows-by : {T : Type 0} (s t : LaneState T) (place : ℕ) (reclaimed : Option (Reclaimed T)) → Keeps place reclaimed s t
@@ -228,7 +221,7 @@ rows-by s t place (Some (Own whole)) kept =
     (ap (λ x. x.rows) kept.rest, ap (λ x. x.references) kept.rest, ap (λ x. x.shape) kept.rest, ap (λ x. x.number) kept.rest, ap (λ x. x.pages) kept.rest, ap (λ x. x.places) kept.rest, kept.same.0)
 rows-by s t place (Some Returned) kept =
     (ap (λ x. x.rows) kept.rest, ap (λ x. x.references) kept.rest, ap (λ x. x.shape) kept.rest, ap (λ x. x.number) kept.rest, ap (λ x. x.pages) kept.rest, ap (λ x. x.places) kept.rest, ap (λ x. x.objects.directory) kept.rest)
-rows-by s t place (Some (Retired vacancy)) kept = (ap (λ x. x.rows) kept, ap (λ x. x.references) kept, ap (λ x. x.shape) kept, ap (λ x. x.number) kept, ap (λ x. x.pages) kept, ap (λ x. x.places) kept, ap (λ x. x.objects.directory) kept)
+rows-by s t place (Some Retired) kept = (ap (λ x. x.rows) kept, ap (λ x. x.references) kept, ap (λ x. x.shape) kept, ap (λ x. x.number) kept, ap (λ x. x.pages) kept, ap (λ x. x.places) kept, ap (λ x. x.objects.directory) kept)
 
 -- the own list has what was freed
 abbrev more-own : FreePlaces → List Place → FreePlaces
@@ -270,7 +263,7 @@ pub record Ended {T : Type 0} (content : T → List ℕ) (room : T → ℕ) (z :
   pub seat : FitsSeat z w t.number
   pub last_pushed : FitsTops z w t.last_pushed.items
   pub stores : FitsStores content room z w t.free t.pages t.objects.items
-  pub rights : FitsRights z w t.objects
+  pub rights : FitsRights z t.number t.pages.opened t.objects
   pub list : t.free ≡ more-own s.free (freed z s.number made)
   pub same : (t.rows ≡ s.rows) × (t.references ≡ s.references) × (t.shape ≡ s.shape) × (t.number ≡ s.number) × (t.pages ≡ s.pages) × (t.places ≡ s.places)
       × (t.objects.directory ≡ s.objects.directory)
@@ -312,7 +305,7 @@ module _ {T : Type 0} {content : T → List ℕ} {room : T → ℕ} {z : Shape} 
     record { with_lane = now-with z place generation fits.seat.shape inside v w first acted below; emptied = told.2; room = told.4 },
   )
   keepable place generation first (Some Returned) inside acted below told = tt
-  keepable place generation first (Some (Retired vacancy)) inside acted below told = tt
+  keepable place generation first (Some Retired) inside acted below told = tt
 
   -- what the own list gains
   list-by : (t : LaneState T) (place generation : ℕ) (first : List Act) (reclaimed : Option (Reclaimed T)) → is_place z place ≡ true
@@ -334,7 +327,7 @@ module _ {T : Type 0} {content : T → List ℕ} {room : T → ℕ} {z : Shape} 
       ap (λ x. x.free) kept.rest ∙ same-own s.free (freed z s.number (first ++ end_acts z (the_lane v).lane place generation returned))
       (freed-append z s.number first (end_acts z (the_lane v).lane place generation returned)
       ∙ (ap (λ (xs : List Place). xs ++ freed z s.number (end_acts z (the_lane v).lane place generation returned)) none ∙ one))
-  list-by t place generation first (Some (Retired vacancy)) inside acted below told none kept =
+  list-by t place generation first (Some Retired) inside acted below told none kept =
       let one = freed-retired z s.number place generation (key-place z place generation fits.seat.shape inside)
       (key-generation z place generation fits.seat.shape inside v w first acted) below in
       ap (λ x. x.free) kept ∙ same-own s.free (freed z s.number (first ++ reclaim z (the_lane v).lane place generation ∷ []))
@@ -352,36 +345,39 @@ module _ {T : Type 0} {content : T → List ℕ} {room : T → ℕ} {z : Shape} 
   alone-by place generation first (Some Returned) inside acted below told =
       abroad-returned z s.number (the_lane v).lane place (key_number z.tag place generation)
       (key-place z place generation fits.seat.shape inside)
-  alone-by place generation first (Some (Retired vacancy)) inside acted below told =
+  alone-by place generation first (Some Retired) inside acted below told =
       abroad-retired z s.number (the_lane v).lane (key_number z.tag place generation)
       (key-generation z place generation fits.seat.shape inside v w first acted ∙ below)
 
-  -- the rights that are then the lane's
-  rights-by : (t : LaneState T) (place generation : ℕ) (first : List Act) (reclaimed : Option (Reclaimed T)) → is_place z place ≡ true
+  -- the places that the lane then has retired
+  retires-by : (place generation : ℕ) (first : List Act) (reclaimed : Option (Reclaimed T)) → is_place z place ≡ true
       → Acted z (first ++ end_acts z (the_lane v).lane place generation reclaimed) v w → FitsGeneration z generation reclaimed
-      → IfSome reclaimed (IsReclaimed content room z place s.number w) → (the_lane w).chain ≡ (the_lane v).chain
-      → OnlyAt place (first ++ end_acts z (the_lane v).lane place generation reclaimed) → ((p : ℕ) → All (λ act. brings act p ≡ false) first)
-      → Keeps place reclaimed s t → FitsRights z w t.objects
-  rights-by t place generation first None inside acted below told chain only none kept =
-      subst (λ (x : LaneState T). FitsRights z w x.objects) (sym kept)
-      (rights-still fits.rights acted chain (λ p. subst (λ (xs : List Act). All (λ act. brings act p ≡ false) xs) (sym (append-nil first)) (none p)))
-  rights-by t place generation first (Some (Own whole)) inside acted below told chain only none kept =
-      let shape : s.shape ≡ z = fits.shape_is in
-      rights-kept fits.rights acted chain fits.seat.shape t.objects inside (told.0 ∙ fits.seat.number_is) kept.same.1 kept.same.2
-      (λ p other. elsewhere-unbrought place p (first ++ reclaim z (the_lane v).lane place generation ∷ []) only other)
-      (kept.rights ∙ ap (λ (y : Shape). slice_set s.objects.rights (index_of y place) true) shape)
-  rights-by t place generation first (Some Returned) inside acted below told chain only none kept =
-      let returned : Option (Reclaimed T) = Some Returned in
-      subst (λ (x : LaneState T). FitsRights z w x.objects) (sym kept.rest)
-      (rights-gone fits.rights acted chain
-      (λ p other. elsewhere-unbrought place p (first ++ end_acts z (the_lane v).lane place generation returned) only other)
-      (λ left. returned-away z place (the_lane v).lane (the_lane v).lane (key_number z.tag place generation) first (left_with z place (the_lane v).mine true) left))
-  rights-by t place generation first (Some (Retired vacancy)) inside acted below told chain only none kept =
-      subst (λ (x : LaneState T). FitsRights z w x.objects) (sym kept)
-      (rights-gone fits.rights acted chain
-      (λ p other. elsewhere-unbrought place p (first ++ reclaim z (the_lane v).lane place generation ∷ []) only other)
-      (λ left. retired-away z place (the_lane v).lane (key_number z.tag place generation) first (left_with z place (the_lane v).mine true)
-      (key-place z place generation fits.seat.shape inside) (key-generation z place generation fits.seat.shape inside v w first acted ∙ below) left))
+      → IfSome reclaimed (IsReclaimed content room z place s.number w) → OnlyAt place (first ++ end_acts z (the_lane v).lane place generation reclaimed)
+      → ((p : ℕ) (was : Bool) → has_retired z p first was ≡ was) → Retires z (touched_by place reclaimed) (first ++ end_acts z (the_lane v).lane place generation reclaimed) v w
+  retires-by place generation first None inside acted below told only still = λ p within is.
+      let was : Bool = has_retired z p (the_lane v).mine false in
+      inl (refl, sym (still p was) ∙ (sym (ap (λ (xs : List Act). has_retired z p xs was) (append-nil first)) ∙ is))
+  retires-by place generation first (Some (Own whole)) inside acted below told only still =
+      retires-else z place (first ++ reclaim z (the_lane v).lane place generation ∷ []) v w only (λ is.
+      absurd (reclaimed-unretired z place (the_lane v).lane (key_number z.tag place generation) first (has_retired z place (the_lane v).mine false)
+      (key-place z place generation fits.seat.shape inside) (λ last. below (sym (key-generation z place generation fits.seat.shape inside v w first acted) ∙ last)) is))
+  retires-by place generation first (Some Returned) inside acted below told only still =
+      retires-else z place (first ++ reclaim z (the_lane v).lane place generation ∷ acts.Home (the_lane v).lane place ∷ []) v w only (λ is.
+      absurd (returned-unretired z place (the_lane v).lane (the_lane v).lane (key_number z.tag place generation) first (has_retired z place (the_lane v).mine false) is))
+  retires-by place generation first (Some Retired) inside acted below told only still =
+      retires-else z place (first ++ reclaim z (the_lane v).lane place generation ∷ []) v w only (λ is. told)
+
+  -- the places that it never opened
+  rights-by : (t : LaneState T) (place : ℕ) (reclaimed : Option (Reclaimed T)) → is_place z place ≡ true → MovedNothing z place (the_lane v) (the_lane w) reclaimed
+      → IfSome reclaimed (IsReclaimed content room z place s.number w) → Keeps place reclaimed s t → FitsRights z t.number t.pages.opened t.objects
+  rights-by t place None inside moved told kept = subst (λ (x : LaneState T). FitsRights z x.number x.pages.opened x.objects) (sym kept) fits.rights
+  rights-by t place (Some (Own whole)) inside moved told kept =
+      let apart = alone-apart fits.stores (some-lane fits.seat) place moved in
+      subst (λ (x : LaneState T). FitsRights z x.number x.pages.opened x.objects) (sym kept.rest)
+      (rights-set {new = t.objects} fits.rights fits.seat.shape place true inside told.0 (apart.opened inside (told.0 ∙ fits.seat.number_is)) kept.same.1
+      (kept.rights ∙ ap (λ (y : Shape). slice_set s.objects.rights (index_of y place) true) fits.shape_is))
+  rights-by t place (Some Returned) inside moved told kept = subst (λ (x : LaneState T). FitsRights z x.number x.pages.opened x.objects) (sym kept.rest) fits.rights
+  rights-by t place (Some Retired) inside moved told kept = subst (λ (x : LaneState T). FitsRights z x.number x.pages.opened x.objects) (sym kept) fits.rights
 
 -- where no place was reclaimed, nothing is given away
 given-none : {T : Type 0} (z : Shape) (lane place generation : ℕ) (first : List Act) (reclaimed : Option (Reclaimed T)) → reclaimed ≡ None
@@ -409,9 +405,10 @@ stores-after {z = z} {v = v} {s = s} fits w t place generation first (Some recla
 pub ended-beside : {S T : Type 0} {content : T → List ℕ} {room : T → ℕ} {z : Shape} {place steps looks : ℕ} {made : List Act} {a b : Me S View} {s t : LaneState T}
     (first : List Act) (reclaimed : Option (Reclaimed T)) → FitsBeside content room z a.0 s → Did z place made steps looks a b → IsIdle b.0 → (acts_so : EndsWithActs z place first a.0 b.0 reclaimed)
     → IfSome reclaimed (IsReclaimed content room z place s.number b.0) → is_place z place ≡ true → OnlyAt place first → All (λ act. gives_away act place ≡ false) first
-    → ((p : ℕ) → All (λ act. brings act p ≡ false) first) → freed z s.number first ≡ [] → NoneAbroad z s.number first → Keeps place reclaimed s t
+    → freed z s.number first ≡ [] → NoneAbroad z s.number first
+    → ((p : ℕ) (was : Bool) → has_retired z p first was ≡ was) → Keeps place reclaimed s t
     → Ended content room z place reclaimed (first ++ end_acts z (the_lane a.0).lane place acts_so.0.0 reclaimed) a.0 b.0 s t
-ended-beside {content = content} {room = room} {z = z} {place = place} {made = made} {a = a} {b = b} {s = s} {t = t} first reclaimed fits did idle acts_so told inside only keeps unbrought none alone kept =
+ended-beside {content = content} {room = room} {z = z} {place = place} {made = made} {a = a} {b = b} {s = s} {t = t} first reclaimed fits did idle acts_so told inside only keeps none alone still kept =
     let lane : ℕ = (the_lane a.0).lane in
     let all : List Act = first ++ end_acts z lane place acts_so.0.0 reclaimed in
     let same : made ≡ all = append_cancel_left (the_lane a.0).mine made all (sym did.acted.mine ∙ acts_so.0.1) in
@@ -425,10 +422,11 @@ ended-beside {content = content} {room = room} {z = z} {place = place} {made = m
       moved = acts_so.2;
       chain = did.chain;
       seat = subst (λ (n : ℕ). FitsSeat z b.0 n) (sym rest.3) (seat-passes fits.seat passes idle
-          (abroad-append z s.number first (end_acts z lane place acts_so.0.0 reclaimed) alone (alone-by fits b.0 place acts_so.0.0 first reclaimed inside passes.acted acts_so.0.2 told)));
+          (abroad-append z s.number first (end_acts z lane place acts_so.0.0 reclaimed) alone (alone-by fits b.0 place acts_so.0.0 first reclaimed inside passes.acted acts_so.0.2 told))
+          (retires-by fits b.0 place acts_so.0.0 first reclaimed inside passes.acted acts_so.0.2 told only_all still));
       last_pushed = last_pushed-by fits t place reclaimed inside acts_so.1 kept;
       stores = stores-after fits b.0 t place acts_so.0.0 first reclaimed inside passes.acted acts_so.0.2 acts_so.2 told stores did.chain kept;
-      rights = rights-by fits b.0 t place acts_so.0.0 first reclaimed inside passes.acted acts_so.0.2 told did.chain only_all unbrought kept;
+      rights = rights-by fits b.0 t place reclaimed inside acts_so.2 told kept;
       list = list-by fits b.0 t place acts_so.0.0 first reclaimed inside passes.acted acts_so.0.2 told none kept;
       same = rest;
     }
@@ -437,10 +435,11 @@ ended-beside {content = content} {room = room} {z = z} {place = place} {made = m
 pub ended : {S T : Type 0} {content : T → List ℕ} {room : T → ℕ} {z : Shape} {place steps looks : ℕ} {made : List Act} {a b : Me S View} {s t : LaneState T}
     (first : List Act) (reclaimed : Option (Reclaimed T)) → Fits content room z a.0 s → Did z place made steps looks a b → IsIdle b.0 → (acts_so : EndsWithActs z place first a.0 b.0 reclaimed)
     → IfSome reclaimed (IsReclaimed content room z place s.number b.0) → is_place z place ≡ true → OnlyAt place first → All (λ act. gives_away act place ≡ false) first
-    → ((p : ℕ) → All (λ act. brings act p ≡ false) first) → freed z s.number first ≡ [] → NoneAbroad z s.number first → Keeps place reclaimed s t
+    → freed z s.number first ≡ [] → NoneAbroad z s.number first
+    → ((p : ℕ) (was : Bool) → has_retired z p first was ≡ was) → Keeps place reclaimed s t
     → Ended content room z place reclaimed (first ++ end_acts z (the_lane a.0).lane place acts_so.0.0 reclaimed) a.0 b.0 s t
-ended first reclaimed fits did idle acts_so told inside only keeps unbrought none alone kept =
-    ended-beside first reclaimed (fits-beside fits) did idle acts_so told inside only keeps unbrought none alone kept
+ended first reclaimed fits did idle acts_so told inside only keeps none alone still kept =
+    ended-beside first reclaimed (fits-beside fits) did idle acts_so told inside only keeps none alone still kept
 
 -- an object that is answered may be kept
 pub beside-away : {T : Type 0} {content : T → List ℕ} {room : T → ℕ} {z : Shape} {v : View} {s : LaneState T} → FitsBeside content room z v s → (w : View) (place : ℕ)
@@ -450,7 +449,7 @@ beside-away fits w place None inside moved told whole is = absurd (cc is)
 beside-away fits w place (Some (Own object)) inside moved told whole is =
     apart-away fits.stores place inside (told.0 ∙ fits.seat.number_is) (alone-apart fits.stores (some-lane fits.seat) place moved)
 beside-away fits w place (Some Returned) inside moved told whole is = absurd (cc is)
-beside-away fits w place (Some (Retired vacancy)) inside moved told whole is = absurd (cc is)
+beside-away fits w place (Some Retired) inside moved told whole is = absurd (cc is)
 
 pub own-away : {T : Type 0} {content : T → List ℕ} {room : T → ℕ} {z : Shape} {v : View} {s : LaneState T} → Fits content room z v s → (w : View) (place : ℕ)
     (reclaimed : Option (Reclaimed T)) → is_place z place ≡ true → MovedNothing z place (the_lane v) (the_lane w) reclaimed

@@ -13,7 +13,7 @@ use Rattle.keybits.specs.Shapes.{is_place}
 use Rattle.keybits.specs.Keys.{place_of, is_key, generation_of}
 use Rattle.seqpool.specs.declared.act.Act.{Act}
 use Rattle.seqpool.specs.declared.act.Act.TheVariants as acts
-use Rattle.seqpool.specs.Pool.{with, published, pool_after}
+use Rattle.seqpool.specs.Pool.{with, published, pool_after, retired}
 use Rattle.poolsteps.specs.declared.view.Status.TheVariants.{Untouched, Emptied}
 use Rattle.poolsteps.specs.Shares.{room_of}
 use Rattle.poolsteps.specs.Share.{Share}
@@ -35,10 +35,9 @@ use Rattle.shardpool.specs.Called.{Did as DidSo, Called, MadeOne, IsUnmoved, Get
 use Rattle.shardpool.proofs.parts.Doing.{did-more, did-carries}
 use Rattle.shardpool.specs.HeldKeys.{HeldKey}
 use Rattle.shardpool.specs.declared.pool.LaneState.{LaneState}
-use Rattle.shardpool.specs.Places.{held_after}
+use Rattle.shardpool.specs.Places.{held_after, has_retired}
 use Rattle.shardpool.specs.Tokens.{FillingOf}
 use Rattle.shardpool.specs.Rows.{AreStanding}
-use Rattle.shardpool.proofs.free.Rights.{rights-still, unbrought-one}
 use Rattle.shardpool.specs.LaneStates.{FitsRow, FitsRows, Fits}
 use Rattle.shardpool.specs.Lanes.{Made, Did}
 use Rattle.shardpool.proofs.frame.OtherShards.{abroad-one}
@@ -49,6 +48,7 @@ use Rattle.shardpool.proofs.free.Stores.{stores-apart, elsewhere-apart}
 use Rattle.shardpool.proofs.references.Rows.{row-of-refs, held-append, held-made}
 use Rattle.shardpool.proofs.references.RowChanges.{key-now, refs-got, rows-low, rows-count-le, rows-got-first, rows-got-again}
 use Rattle.shardpool.proofs.frame.LaneFacts.{lane_of, made-passes, did-lane}
+use Rattle.shardpool.proofs.frame.RetiredPlaces.{Retires, retired-append, retires-else, retired-phase}
 
 -- ---- one call
 
@@ -152,6 +152,16 @@ module _ {T : Type 0} {content : T → List ℕ} {room : T → ℕ} {z : Shape} 
         let bad : published told.0 told.1 told.2 ≡ with (the_lane w).lane
         = sym told.3 ∙ still-with hit.passes.acted fits.seat.paired fits.seat.own (place_of key) is (keeps (place_of key)) in cc bad
 
+    -- nor was it one that the lane retired
+    hit-retires : Retires z (λ p. eqb p (place_of key)) (acts.Get (the_lane v).lane key (Some bytes) ∷ []) v w
+    hit-retires = retires-else z (place_of key) (acts.Get (the_lane v).lane key (Some bytes) ∷ []) v w (onlyat-get (the_lane v).lane key (Some bytes)) (λ was.
+        let told = held-content-law z w.seen (the_lane w).lane key hit.passes.acted.legal hit-one in
+        let mine : has_retired z (place_of key) (the_lane w).mine false ≡ true
+        = ap (λ (xs : List Act). has_retired z (place_of key) xs false) hit.passes.acted.mine
+        ∙ (retired-append z (place_of key) (the_lane v).mine (acts.Get (the_lane v).lane key (Some bytes) ∷ []) false ∙ was) in
+        let bad : published told.0 told.1 told.2 ≡ retired
+        = sym told.3 ∙ retired-phase z w.seen (the_lane w).mine (the_lane w).lane (place_of key) hit.passes.acted.legal hit.passes.acted.own mine in absurd (cc bad))
+
     hit-refs : held_after (the_lane w).mine 0 ≡ held_after (the_lane v).mine 0 + 1
     hit-refs =
         ap (λ (xs : List Act). held_after xs 0) hit.passes.acted.mine ∙ held-append (the_lane v).mine (acts.Get (the_lane v).lane key (Some bytes) ∷ []) 0
@@ -172,11 +182,11 @@ module _ {T : Type 0} {content : T → List ℕ} {room : T → ℕ} {z : Shape} 
           subst (λ (x : LaneState T). Fits content room z w x) (sym rest) (record {
             shape_is = fits.shape_is;
             placed = fits.placed;
-            seat = seat-passes fits.seat hit.passes hit.idle (abroad-one z s.number (acts.Get (the_lane v).lane key (Some bytes)) (λ p within other. refl));
+            seat = seat-passes fits.seat hit.passes hit.idle (abroad-one z s.number (acts.Get (the_lane v).lane key (Some bytes)) (λ p within other. refl)) hit-retires;
             last_pushed = last_pushed-same fits.last_pushed hit.pushed;
             rows = rows;
             stores = stores;
-            rights = rights-still fits.rights hit.passes.acted hit.chain (λ p. unbrought-one p (acts.Get (the_lane v).lane key (Some bytes)) refl);
+            rights = fits.rights;
             standing = standing;
           })
 
@@ -201,6 +211,7 @@ module _ {T : Type 0} {content : T → List ℕ} {room : T → ℕ} {z : Shape} 
           let off : eqb p (place_of key) ≡ false = ne_eqb p (place_of key)
           (λ here. hit-away (subst (λ (q : ℕ). (pool_after z v.seen q).phase ≡ with (the_lane v).lane) here mine)) in
           made-passes z (lane_of table v s) (lane_of table_now w t) filling fits.shape_is shape_now (sym fits.seat.number_is) (ap (λ (x : LaneState T). x.number) rest) same
+          (ap (λ (x : LaneState T). x.objects.directory) rest)
           hit.passes fits.seat.paired fits.seat.own hit.idle hit.chain list_now (ap (λ (x : LaneState T). x.pages) rest) off (keeps p) was
 
       pub gained : FitsRows content room z w t.rows.items (s.references + 1) → AreStanding s.objects.directory t.rows.items → Gained content room z key bytes v w s t

@@ -84,7 +84,7 @@ module _ {T : Type 0} (rows : Vec (HeldKey T) Global) where
   keeps-rows place None s t kept = ap with_rows kept
   keeps-rows place (Some (Own whole)) s t kept = record { objects = kept.objects; rights = kept.rights; same = kept.same; list = kept.list; free = kept.free; rest = ap with_rows kept.rest }
   keeps-rows place (Some Returned) s t kept = record { last_pushed = kept.last_pushed; rest = ap with_rows kept.rest }
-  keeps-rows place (Some (Retired vacancy)) s t kept = ap with_rows kept
+  keeps-rows place (Some Retired) s t kept = ap with_rows kept
 
   pub keeper-rows : {z : Shape} {directory : Ptr} {place : ℕ} {v : View} {s : LaneState T} → IsKeeper z directory place v (record s { rows = rows }) → IsKeeper z directory place v s
   keeper-rows keeper = record {
@@ -107,7 +107,7 @@ module _ {T : Type 0} where
   keeps-same place (Some (Own whole)) s t kept = (ap (λ (x : LaneState T). x.rows) kept.rest, ap (λ (x : LaneState T). x.shape) kept.rest, kept.same.0)
   keeps-same place (Some Returned) s t kept =
       (ap (λ (x : LaneState T). x.rows) kept.rest, ap (λ (x : LaneState T). x.shape) kept.rest, ap (λ (x : LaneState T). x.objects.directory) kept.rest)
-  keeps-same place (Some (Retired vacancy)) s t kept = (ap (λ (x : LaneState T). x.rows) kept, ap (λ (x : LaneState T). x.shape) kept, ap (λ (x : LaneState T). x.objects.directory) kept)
+  keeps-same place (Some Retired) s t kept = (ap (λ (x : LaneState T). x.rows) kept, ap (λ (x : LaneState T). x.shape) kept, ap (λ (x : LaneState T). x.objects.directory) kept)
 
   -- the same rows of the same directory count none
   pub bare-same : {s t : LaneState T} → t.rows ≡ s.rows → t.shape ≡ s.shape → t.objects.directory ≡ s.objects.directory → AreBare s → AreBare t

@@ -57,7 +57,7 @@ repeated-at n at a low =
 
 -- the seat, the last_pushed, the rows and the stores of the first view
 first-seat : (z : Shape) (lane : ℕ) → IsShape z → lane < z.lanes → FitsSeat z (first_book lane) lane
-first-seat z lane shape below = record { shape = shape; one = refl; number_is = refl; below = below; idle = refl; legal = tt; owners = owners-none; quiet = λ one idle place inside marked. absurd (cc marked); own = refl; paired = refl; alone = λ place inside other. refl }
+first-seat z lane shape below = record { shape = shape; one = refl; number_is = refl; below = below; idle = refl; legal = tt; owners = owners-none; quiet = λ one idle place inside marked. absurd (cc marked); own = refl; paired = refl; alone = λ place inside other. refl; retires = λ place inside is. absurd (cc is) }
 
 first-last_pushed : (z : Shape) (lane : ℕ) → FitsTops z (first_book lane) (replicate z.lanes 0)
 first-last_pushed z lane = record { wide = length-replicate z.lanes 0; each = λ shard below. get_or-replicate z.lanes shard 0 0 below }
@@ -105,20 +105,18 @@ module _ {T : Type 0} (content : T → List ℕ) (room : T → ℕ) (z : Shape) 
     first = shard_start z lane;
     items = replicate (shard_places z) None;
     rights = replicate (shard_places z) true;
-    wide = slot_row z;
   }
 
-  first-rights : (directory : Ptr) → FitsRights z (first_book lane) (first_objects directory)
+  first-rights : (directory : Ptr) → FitsRights z lane 0 (first_objects directory)
   first-rights directory = record {
     first_is = refl;
-    wide = refl;
     narrow = length-replicate (shard_places z) true;
-    has_right = λ place inside own left unchained. repeated-at (shard_places z) (index_of z place) true (index_of-lt z place inside);
+    has_right = λ place inside own high. repeated-at (shard_places z) (index_of z place) true (index_of-lt z place inside);
   }
 
   -- so are the rights after an endowment
   pub endowed : (directory : Ptr) (old new : ObjectsOf T)
-      → old ≡ record { directory = directory; first = shard_start z lane; items = replicate (shard_places z) None; rights = replicate (shard_places z) false; wide = slot_row z }
+      → old ≡ record { directory = directory; first = shard_start z lane; items = replicate (shard_places z) None; rights = replicate (shard_places z) false }
       → new ≡ record old { items = replicate (length old.items) None; rights = replicate (length old.items) true } → new ≡ first_objects directory
   endowed directory old new was now =
       let none : Option T = None in
@@ -146,22 +144,22 @@ module _ {T : Type 0} (content : T → List ℕ) (room : T → ℕ) (z : Shape) 
         rows = subst (λ (r : List (HeldKey T)). FitsRows content room z (first_book lane) r s.references) (sym is.rows)
             (subst (FitsRows content room z (first_book lane) (replicate (slot_row z) first_row)) (sym is.references) first-rows);
         stores = subst (FitsStores content room z (first_book lane) s.free s.pages) (sym items) (first-stores s.free s.pages is.free is.pages);
-        rights = subst (FitsRights z (first_book lane)) (sym objects_are) (first-rights directory);
+        rights = subst (λ (n : ℕ). FitsRights z n s.pages.opened objects) (sym is.number_is)
+            (subst (λ (p : ShardPages). FitsRights z lane p.opened objects) (sym is.pages) (subst (FitsRights z lane 0) (sym objects_are) (first-rights directory)));
         standing = subst (AreStanding {T = T} objects.directory) (sym is.rows) (first-standing objects.directory);
       } in
       subst (λ (y : Shape). Fits content room y v t) (sym is.shape_is) (subst (λ (w : View). Fits content room z w t) (sym book) fits)
 
 -- what a lane has of objects before it is endowed
-pub unendowed-are : {T : Type 0} (z : Shape) (lane : ℕ) (directory : Ptr) (objects : ObjectsOf T) (places first total : ℕ) → places ≡ shard_places z → first ≡ shard_start z lane → total ≡ slot_row z
-    → (objects.directory ≡ directory) × (objects.first ≡ first) × (objects.items ≡ replicate places None) × (objects.rights ≡ replicate places false) × (objects.wide ≡ total)
-    → objects ≡ record { directory = directory; first = shard_start z lane; items = replicate (shard_places z) None; rights = replicate (shard_places z) false; wide = slot_row z }
-unendowed-are {T} z lane directory objects places first total places_are first_is total_is is =
+pub unendowed-are : {T : Type 0} (z : Shape) (lane : ℕ) (directory : Ptr) (objects : ObjectsOf T) (places first : ℕ) → places ≡ shard_places z → first ≡ shard_start z lane
+    → (objects.directory ≡ directory) × (objects.first ≡ first) × (objects.items ≡ replicate places None) × (objects.rights ≡ replicate places false)
+    → objects ≡ record { directory = directory; first = shard_start z lane; items = replicate (shard_places z) None; rights = replicate (shard_places z) false }
+unendowed-are {T} z lane directory objects places first places_are first_is is =
     let none : Option T = None in
     let items : objects.items ≡ replicate (shard_places z) none = is.2 ∙ ap (λ (n : ℕ). replicate n none) places_are in
     let rights : objects.rights ≡ replicate (shard_places z) false = is.3 ∙ ap (λ (n : ℕ). replicate n false) places_are in
     let begins : objects.first ≡ shard_start z lane = is.1 ∙ first_is in
-    let wide : objects.wide ≡ slot_row z = is.4 ∙ total_is in
-    λ i. record { directory = is.0 i; first = begins i; items = items i; rights = rights i; wide = wide i }
+    λ i. record { directory = is.0 i; first = begins i; items = items i; rights = rights i }
 
 -- ---- the rights to the places of one shard after those of another
 

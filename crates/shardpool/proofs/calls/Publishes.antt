@@ -1,5 +1,5 @@
 -- What a publish leaves of a lane: the place of the key was a filling of it, and then isn't any more.
-use Rattle.std.proofs.Common.{◌≡◌, ◌≢◌, ℕ, ◌+◌, Bool, true, false, cond, eqb, List, [], ◌∷◌, ◌++◌, length, Option, Some, None, refl, sym, ap, ◌∙◌, subst, arith, append-nil, length-append, eq-eqb, ne_eqb, slice_get, slice_index_or, slice_set}
+use Rattle.std.proofs.Common.{◌≡◌, ◌≢◌, ℕ, ◌+◌, Bool, true, false, cond, eqb, List, [], ◌∷◌, ◌++◌, length, Some, None, refl, sym, ap, ◌∙◌, subst, arith, append-nil, length-append, eq-eqb, ne_eqb, slice_get, slice_index_or, slice_set}
 use Rattle.std.proofs.Math.Seq.{get_or-append_seam}
 use Rattle.std.proofs.lemmas.List.{append_cancel_left, set-get_or}
 use Rattle.std.proofs.lemmas.Option.{slice_get-get_or}
@@ -13,14 +13,13 @@ use Rattle.keybits.proofs.KeyLemmas.{key_parts}
 use Rattle.freelists.specs.Queues.{FreePlaces}
 use Rattle.seqpool.specs.declared.act.Act.{Act}
 use Rattle.seqpool.specs.declared.act.Act.TheVariants as acts
-use Rattle.seqpool.specs.Pool.{Phase, with, pool_after, references_in}
+use Rattle.seqpool.specs.Pool.{Phase, pool_after, references_in}
 use Rattle.seqpool.specs.Histories.{At, PublishedAt, acts_of}
 use Rattle.seqpool.proofs.Ranks.{same-key, current-key}
 use Rattle.poolsteps.specs.declared.view.Status.TheVariants.{Emptied}
 use Rattle.poolsteps.specs.Share.{Share}
 use Rattle.poolsteps.proofs.shares.HeldContents.{held-current}
-use Rattle.keybits.specs.Places.{shard_of}
-use Rattle.keybits.specs.Shapes.{is_place, index_of}
+use Rattle.keybits.specs.Shapes.{is_place}
 use Rattle.poolsteps.specs.declared.grid.Spot.{Spot}
 use Rattle.poolsteps.specs.Grids.{IsSpot}
 use Rattle.poolsteps.specs.Layout.{slot_start}
@@ -31,11 +30,9 @@ use Rattle.poolsteps.specs.Moved.{stored_of}
 use Rattle.shardpool.specs.Called.{Did as DidSo, MadeOne}
 use Rattle.shardpool.specs.HeldKeys.{HeldKey}
 use Rattle.shardpool.specs.declared.pool.LaneState.{LaneState}
-use Rattle.shardpool.specs.Places.{held_after, left_with}
+use Rattle.shardpool.specs.Places.{held_after, has_retired}
 use Rattle.shardpool.specs.Tokens.{LaneOf, FillingOf}
 use Rattle.shardpool.specs.Rows.{AreStanding}
-use Rattle.shardpool.specs.Stores.{GivesOut}
-use Rattle.shardpool.proofs.free.Rights.{left-with, rights-given, published-away, unbrought-one}
 use Rattle.shardpool.proofs.references.Standings.{standing-set, standing-same}
 use Rattle.shardpool.specs.LaneStates.{FitsSeat, FitsTops, FitsStores, FitsRights, IsHeld, FitsRow, FitsRows, Fits}
 use Rattle.shardpool.specs.Lanes.{Made, Did}
@@ -44,11 +41,12 @@ use Rattle.shardpool.proofs.frame.Frames.{Passes, OnlyAt}
 use Rattle.shardpool.proofs.parts.Going.{all-acts}
 use Rattle.shardpool.proofs.frame.LaneFrames.{passes-did, passes-refs, away-elsewhere, onlyat-publish}
 use Rattle.shardpool.proofs.frame.KeptPlaces.{seat-passes, last_pushed-same}
-use Rattle.shardpool.proofs.free.Stores.{IsApart, filling-apart, stores-apart, stores-changed}
+use Rattle.shardpool.proofs.free.Stores.{IsApart, filling-apart, stores-apart}
 use Rattle.shardpool.proofs.frame.BlankPlaces.{last-of}
 use Rattle.shardpool.proofs.references.Rows.{either-same, held-append, row-none, rows-set}
 use Rattle.shardpool.proofs.references.RowChanges.{rows-low, rows-published}
 use Rattle.shardpool.proofs.frame.LaneFacts.{lane_of, made-passes, did-lane}
+use Rattle.shardpool.proofs.frame.RetiredPlaces.{retires-else}
 
 -- an act stands behind those before it
 at-seam : (xs ys : List Act) (act : Act) → At (xs ++ act ∷ ys) (length xs) act
@@ -75,18 +73,6 @@ made-spot {z = z} {filling = filling} spot key made shape key_is start place = r
   start = start ∙ (made.start ∙ λ i. slot_start (shape i) (place_of (sym key_is i)));
 }
 
--- and the lane has the right to it
-pub made-right : {T : Type 0} {content : T → List ℕ} {room : T → ℕ} {z : Shape} {v : View} {s : LaneState T} {table : TableId} {filling : FillingOf T} → Fits content room z v s
-    → Made (lane_of table v s) filling → slice_get s.objects.rights (index_of z (place_of filling.key)) ≡ Some true
-made-right {z = z} {v = v} {s = s} {filling = filling} fits made =
-    let place : ℕ = place_of filling.key in
-    let lane : ℕ = (the_lane v).lane in
-    let own : shard_of place ≡ lane = made.place.own ∙ fits.seat.number_is in
-    let inside : is_place z place ≡ true = subst (λ (y : Shape). is_place y place ≡ true) fits.shape_is made.place.inside in
-    let there : (pool_after z v.seen place).phase ≡ with lane
-    = subst (λ (y : Shape). (pool_after y v.seen place).phase ≡ with lane) fits.shape_is (made.place.with_lane ∙ ap with fits.seat.number_is) in
-    fits.rights.has_right place inside own (left-with fits.seat place own there) made.place.unchained
-
 -- a row for none
 abbrev pub empty-row : {T : Type 0} → HeldKey T
 empty-row = record { generation = 0; count = 0; share = None }
@@ -94,10 +80,7 @@ empty-row = record { generation = 0; count = 0; share = None }
 module _ {S T : Type 0} {content : T → List ℕ} {room : T → ℕ} {z : Shape} {steps looks count : ℕ} {made : List Act} {a b : Me S View} (s t : LaneState T) (table : TableId) (filling : FillingOf T)
     (bytes : List ℕ) (with_ref : Bool) (fits : Fits content room z a.0 s) (did : DidSo z (place_of filling.key) made steps looks a b) (idle : IsIdle b.0)
     (acts_so : MadeOne a.0 b.0 (acts.Publish s.number filling.key bytes with_ref)) (was : Made (lane_of table a.0 s) filling)
-    (m : LaneState T) (out : GivesOut (place_of filling.key) s m) (rest_m : t ≡ record m { rows = t.rows; references = count }) where
-  rest : t ≡ record s { objects = m.objects; rows = t.rows; references = count }
-  rest = rest_m ∙ ap (λ (x : LaneState T). record x { rows = t.rows; references = count }) out.rest
-
+    (rest : t ≡ record s { rows = t.rows; references = count }) where
   abbrev place : ℕ
   place = place_of filling.key
 
@@ -138,31 +121,17 @@ module _ {S T : Type 0} {content : T → List ℕ} {room : T → ℕ} {z : Shape
 
   seat : FitsSeat z b.0 s.number
   seat = seat-passes fits.seat passes idle (abroad-one z s.number act (λ p within other. refl))
+      (retires-else z place (act ∷ []) a.0 b.0 only (λ was.
+      let bad : false ≡ true = sym (ap (λ (b : Bool). cond b false (has_retired z place (the_lane a.0).mine false)) (eq-eqb place place refl)) ∙ was in absurd (cc bad)))
 
   last_pushed : FitsTops z b.0 s.last_pushed.items
   last_pushed = last_pushed-same fits.last_pushed acts_so.1
 
-  inside-place : is_place z place ≡ true
-  inside-place = (key_parts z filling.key inside).place
-
-  own-place : shard_of place ≡ (the_lane a.0).lane
-  own-place = was.place.own ∙ fits.seat.number_is
-
-  stores : FitsStores content room z b.0 s.free s.pages m.objects.items
-  stores =
-      let still = stores-apart fits.stores fits.seat.paired fits.seat.own did.chain only passes apart in
-      let items : m.objects.items ≡ slice_set s.objects.items (index_of z place) None = out.items ∙ ap (λ (y : Shape). slice_set s.objects.items (index_of y place) None) fits.shape_is in
-      subst (λ (xs : List (Option T)). FitsStores content room z b.0 s.free s.pages xs) (sym items)
-      (stores-changed still None out.free inside-place (own-place ∙ sym passes.acted.lane) apart.unlisted)
-
-  rights : FitsRights z b.0 m.objects
-  rights =
-      rights-given fits.rights passes.acted did.chain fits.seat.shape m.objects inside-place own-place out.same.1 out.same.2
-      (λ p other. unbrought-one p act refl) false (out.rights ∙ ap (λ (y : Shape). slice_set s.objects.rights (index_of y place) false) fits.shape_is)
-      (λ left. published-away z place s.number filling.key bytes with_ref (left_with z place (the_lane a.0).mine true) refl left)
+  stores : FitsStores content room z b.0 s.free s.pages s.objects.items
+  stores = stores-apart fits.stores fits.seat.paired fits.seat.own did.chain only passes apart
 
   directory-now : t.objects.directory ≡ s.objects.directory
-  directory-now = ap (λ (x : LaneState T). x.objects.directory) rest ∙ out.same.0
+  directory-now = ap (λ (x : LaneState T). x.objects.directory) rest
 
   fits-with : FitsRows content room z b.0 t.rows.items t.references → AreStanding s.objects.directory t.rows.items → Fits content room z b.0 t
   fits-with rows standing = record {
@@ -172,7 +141,7 @@ module _ {S T : Type 0} {content : T → List ℕ} {room : T → ℕ} {z : Shape
     last_pushed = subst (λ (x : LaneState T). FitsTops z b.0 x.last_pushed.items) (sym rest) last_pushed;
     rows = rows;
     stores = subst (λ (x : LaneState T). FitsStores content room z b.0 x.free x.pages x.objects.items) (sym rest) stores;
-    rights = subst (λ (x : LaneState T). FitsRights z b.0 x.objects) (sym rest) rights;
+    rights = subst (λ (x : LaneState T). FitsRights z x.number x.pages.opened x.objects) (sym rest) fits.rights;
     standing = standing-same refl directory-now standing;
   }
 
@@ -234,7 +203,7 @@ module _ {S T : Type 0} {content : T → List ℕ} {room : T → ℕ} {z : Shape
   published-others table_now same other differs is =
       let there = apart-from other is differs in
       made-passes z (lane_of table a.0 s) (lane_of table_now b.0 t) other fits.shape_is (ap (λ (x : LaneState T). x.shape) rest ∙ fits.shape_is) (sym fits.seat.number_is)
-      (ap (λ (x : LaneState T). x.number) rest) same passes fits.seat.paired fits.seat.own idle did.chain (published-did table_now same).list (ap (λ (x : LaneState T). x.pages) rest)
+      (ap (λ (x : LaneState T). x.number) rest) same directory-now passes fits.seat.paired fits.seat.own idle did.chain (published-did table_now same).list (ap (λ (x : LaneState T). x.pages) rest)
       (off (place_of other.key) there) (away-elsewhere place (place_of other.key) (act ∷ []) only there) is
 
   -- what it keeps, where the key was published without a reference

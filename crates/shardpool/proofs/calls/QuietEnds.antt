@@ -9,7 +9,7 @@ use Rattle.keybits.specs.Shapes.{is_place}
 use Rattle.keybits.specs.Keys.{place_of}
 use Rattle.seqpool.specs.declared.act.Act.{Act}
 use Rattle.seqpool.specs.declared.act.Act.TheVariants as acts
-use Rattle.poolsteps.specs.PlaceLaws.{gives_away, brings}
+use Rattle.poolsteps.specs.PlaceLaws.{gives_away}
 use Rattle.poolsteps.specs.declared.view.View.{View}
 use Rattle.poolsteps.specs.Views.{the_lane}
 use Rattle.poolsteps.specs.Told.{IsIdle}
@@ -18,7 +18,7 @@ use Rattle.shardpool.specs.declared.reclaim.Reclaimed.{Reclaimed}
 use Rattle.shardpool.specs.Called.{Did as DidSo, IsReclaimed, EndsWithActs, MovedNothing, end_acts}
 use Rattle.shardpool.specs.declared.pool.Places.{Places}
 use Rattle.shardpool.specs.declared.pool.LaneState.{LaneState}
-use Rattle.shardpool.specs.Places.{held_after}
+use Rattle.shardpool.specs.Places.{held_after, has_retired}
 use Rattle.shardpool.specs.Tokens.{FillingOf}
 use Rattle.shardpool.specs.Stores.{Keeps}
 use Rattle.shardpool.specs.LaneStates.{FitsRows, Fits}
@@ -27,7 +27,6 @@ use Rattle.shardpool.proofs.frame.OtherShards.{NoneAbroad}
 use Rattle.shardpool.proofs.frame.Frames.{OnlyAt}
 use Rattle.shardpool.proofs.frame.LaneFrames.{onlyat-clear, onlyat-get}
 use Rattle.shardpool.proofs.calls.Ends.{Ended, ended, rows-ended, some-lane}
-use Rattle.shardpool.proofs.free.Rights.{unbrought-one}
 use Rattle.shardpool.proofs.references.Standings.{standing-same}
 use Rattle.shardpool.proofs.frame.LaneFacts.{lane_of, made-passes, did-lane, filling-off, filling-kept}
 
@@ -35,9 +34,9 @@ use Rattle.shardpool.proofs.frame.LaneFacts.{lane_of, made-passes, did-lane, fil
 pub record IsQuiet (z : Shape) (lane place : ℕ) (first : List Act) : Type 0 where
   pub only : OnlyAt place first
   pub keeps : All (λ act. gives_away act place ≡ false) first
-  pub brings_none : (p : ℕ) → All (λ act. brings act p ≡ false) first
   pub freed_none : freed z lane first ≡ []
   pub alone : NoneAbroad z lane first
+  pub still : (p : ℕ) (was : Bool) → has_retired z p first was ≡ was
   pub references : (key n : ℕ) → references_made first key n ≡ n
   pub held : (n : ℕ) → held_after first n ≡ n
 
@@ -53,7 +52,7 @@ module _ {S T : Type 0} {content : T → List ℕ} {room : T → ℕ} {z : Shape
     (acts_so : EndsWithActs z place first a.0 b.0 reclaimed) (told : IfSome reclaimed (IsReclaimed content room z place s.number b.0)) (inside : is_place z place ≡ true)
     (quiet : IsQuiet z s.number place first) (kept : Keeps place reclaimed s t) where
   quiet-ended : Ended content room z place reclaimed (first ++ end_acts z (the_lane a.0).lane place acts_so.0.0 reclaimed) a.0 b.0 s t
-  quiet-ended = ended first reclaimed fits did idle acts_so told inside quiet.only quiet.keeps quiet.brings_none quiet.freed_none quiet.alone kept
+  quiet-ended = ended first reclaimed fits did idle acts_so told inside quiet.only quiet.keeps quiet.freed_none quiet.alone quiet.still kept
 
   -- what the lane keeps fits
   quiet-fits : Fits content room z b.0 t
@@ -87,7 +86,7 @@ module _ {S T : Type 0} {content : T → List ℕ} {room : T → ℕ} {z : Shape
       let e = quiet-ended in
       let some : 0 < s.shape.lanes = subst (λ (y : Shape). 0 < y.lanes) (sym fits.shape_is) (some-lane fits.seat) in
       let off = filling-off s.shape a.0 b.0 place (place_of filling.key) reclaimed some (subst (λ (y : Shape). MovedNothing y place (the_lane a.0) (the_lane b.0) reclaimed) (sym fits.shape_is) e.moved) was.emptied in
-      made-passes z (lane_of table a.0 s) (lane_of table_now b.0 t) filling fits.shape_is (e.same.2 ∙ fits.shape_is) (sym fits.seat.number_is) e.same.3 same e.passes fits.seat.paired fits.seat.own
+      made-passes z (lane_of table a.0 s) (lane_of table_now b.0 t) filling fits.shape_is (e.same.2 ∙ fits.shape_is) (sym fits.seat.number_is) e.same.3 same e.same.6 e.passes fits.seat.paired fits.seat.own
       idle e.chain e.list e.same.4 off (filling-kept place (place_of filling.key) reclaimed e off) was
 
   pub quieted : Quieted content room z first a.0 b.0 s t
@@ -98,9 +97,9 @@ pub quiet-clear : (z : Shape) (own lane key : ℕ) (reply : Bool) → IsQuiet z 
 quiet-clear z own lane key reply = record {
   only = onlyat-clear lane key reply;
   keeps = All-cons (λ act. gives_away act (place_of key) ≡ false) (acts.Clear lane key reply) [] refl (All-nil (λ act. gives_away act (place_of key) ≡ false));
-  brings_none = λ p. unbrought-one p (acts.Clear lane key reply) refl;
   freed_none = refl;
   alone = λ p inside other. refl;
+  still = λ p was. refl;
   references = λ k n. refl;
   held = λ n. refl;
 }
@@ -109,9 +108,9 @@ pub quiet-miss : (z : Shape) (own lane key : ℕ) → IsQuiet z own (place_of ke
 quiet-miss z own lane key = record {
   only = onlyat-get lane key None;
   keeps = All-cons (λ act. gives_away act (place_of key) ≡ false) (acts.Get lane key None) [] refl (All-nil (λ act. gives_away act (place_of key) ≡ false));
-  brings_none = λ p. unbrought-one p (acts.Get lane key None) refl;
   freed_none = refl;
   alone = λ p inside other. refl;
+  still = λ p was. refl;
   references = λ k n. refl;
   held = λ n. refl;
 }

@@ -17,7 +17,7 @@ use Rattle.freelists.specs.Queues.{IsAway}
 use Rattle.freelists.specs.Shards.{place_numbered}
 use Rattle.seqpool.specs.declared.act.Act.{Act}
 use Rattle.seqpool.specs.declared.act.Act.TheVariants as acts
-use Rattle.seqpool.specs.Pool.{with, published, pool_after}
+use Rattle.seqpool.specs.Pool.{with, published, pool_after, retired}
 use Rattle.poolsteps.specs.declared.view.Status.TheVariants.{Untouched, Emptied}
 use Rattle.poolsteps.specs.Share.{Share}
 use Rattle.poolsteps.specs.Spot.{Spot as CellSpot}
@@ -47,7 +47,6 @@ use Rattle.shardpool.specs.Stores.{Keeps}
 use Rattle.shardpool.specs.Lendings.{LendsHome}
 use Rattle.shardpool.specs.Rows.{AreStanding}
 use Rattle.shardpool.specs.LaneStates.{FitsSeat, FitsTops, FitsStores, IsHeld, FitsRow, FitsRows, Fits, FitsRights}
-use Rattle.shardpool.proofs.free.Rights.{rights-still, unbrought-none, unbrought-one}
 use Rattle.shardpool.proofs.references.Standings.{standing-set, standing-same}
 use Rattle.shardpool.specs.Lanes.{Made, Did, freed, holds}
 use Rattle.shardpool.proofs.frame.Frames.{Passes, OnlyAt}
@@ -60,6 +59,7 @@ use Rattle.shardpool.proofs.calls.Ends.{FitsBeside, Ended, ended-beside, beside-
 use Rattle.shardpool.proofs.calls.Publishes.{empty-row}
 use Rattle.shardpool.proofs.frame.SeenHistories.{same-shape}
 use Rattle.shardpool.proofs.frame.LaneFacts.{lane_of, made-passes, did-lane}
+use Rattle.shardpool.proofs.frame.RetiredPlaces.{Retires, retires-else, retired-phase}
 
 -- a lane that did nothing
 seat-nothing : {S : Type 0} {z : Shape} {a : Me S View} {n : ℕ} (place looks : ℕ) → FitsSeat z a.0 n → DidSo z place [] 0 looks a a
@@ -303,6 +303,13 @@ module _ {T : Type 0} {content : T → List ℕ} {room : T → ℕ} {z : Shape} 
       let told = held-content-law z a.0.seen (the_lane a.0).lane key fits.seat.legal some in
       let bad : published told.0 told.1 told.2 ≡ with lane = sym told.3 ∙ is in cc bad
 
+  -- nor is it one that the lane retired
+  unretired : Retires z (λ p. eqb p place) [] a.0 b.0
+  unretired = retires-else z place [] a.0 b.0 (onlyat-none place) (λ was.
+      let told = held-content-law z a.0.seen (the_lane a.0).lane key fits.seat.legal some in
+      let bad : published told.0 told.1 told.2 ≡ retired
+      = sym told.3 ∙ retired-phase z a.0.seen (the_lane a.0).mine (the_lane a.0).lane place fits.seat.legal fits.seat.own was in absurd (cc bad))
+
   -- ---- the row has one reference less
 
   module _ (e : LaneState T) (ends : EndsAt at m e) where
@@ -318,7 +325,7 @@ module _ {T : Type 0} {content : T → List ℕ} {room : T → ℕ} {z : Shape} 
 
     pub beside : FitsBeside content room z b.0 e
     beside =
-        let seat : FitsSeat z b.0 s.number = seat-passes fits.seat lent-passes lent.idle (λ p within other. refl) in
+        let seat : FitsSeat z b.0 s.number = seat-passes fits.seat lent-passes lent.idle (λ p within other. refl) unretired in
         let last_pushed : FitsTops z b.0 s.last_pushed.items = last_pushed-same fits.last_pushed lent.pushed in
         let stores : FitsStores content room z b.0 s.free s.pages s.objects.items
         = stores-apart fits.stores fits.seat.paired fits.seat.own lent.did.chain (onlyat-none place) lent-passes (elsewhere-apart fits.stores place (away (the_lane a.0).lane)) in
@@ -328,8 +335,7 @@ module _ {T : Type 0} {content : T → List ℕ} {room : T → ℕ} {z : Shape} 
           seat = subst (λ (x : LaneState T). FitsSeat z b.0 x.number) (sym rest-so) seat;
           last_pushed = subst (λ (x : LaneState T). FitsTops z b.0 x.last_pushed.items) (sym rest-so) last_pushed;
           stores = subst (λ (x : LaneState T). FitsStores content room z b.0 x.free x.pages x.objects.items) (sym rest-so) stores;
-          rights = subst (λ (x : LaneState T). FitsRights z b.0 x.objects) (sym rest-so)
-              (rights-still fits.rights lent.did.acted lent.did.chain (λ p. unbrought-none p));
+          rights = subst (λ (x : LaneState T). FitsRights z x.number x.pages.opened x.objects) (sym rest-so) fits.rights;
         }
 
     -- ---- the release
@@ -357,7 +363,7 @@ module _ {T : Type 0} {content : T → List ℕ} {room : T → ℕ} {z : Shape} 
         left = ended-beside (acts.Release s.number key ∷ []) reclaimed beside did idle acts_so
             told-so (place-inside s key fits some) (onlyat-release s.number key)
             (All-cons (λ act. gives_away act place ≡ false) (acts.Release s.number key) [] refl (All-nil (λ act. gives_away act place ≡ false)))
-            (λ p. unbrought-one p (acts.Release s.number key) refl) refl (λ p within other. refl) kept
+            refl (λ p within other. refl) (λ p was. refl) kept
 
         through : Passes z (λ p. eqb p place) all a.0 d.0
         through = passes-more lent-passes (passes-wider (touched-all place reclaimed) left.passes)
@@ -424,7 +430,7 @@ module _ {T : Type 0} {content : T → List ℕ} {room : T → ℕ} {z : Shape} 
             let other : place_of filling.key ≢ place
             = λ there. away (the_lane a.0).lane (subst (λ (p : ℕ). (pool_after z a.0.seen p).phase ≡ with (the_lane a.0).lane) there
             (subst (λ (y : Shape). (pool_after y a.0.seen (place_of filling.key)).phase ≡ with (the_lane a.0).lane) fits.shape_is was.may.with_lane)) in
-            made-passes z (lane_of table a.0 s) (lane_of table_now d.0 t) filling fits.shape_is shape-now (sym fits.seat.number_is) number-now same through fits.seat.paired fits.seat.own
+            made-passes z (lane_of table a.0 s) (lane_of table_now d.0 t) filling fits.shape_is shape-now (sym fits.seat.number_is) number-now same directory-now through fits.seat.paired fits.seat.own
             idle (did.chain ∙ lent.did.chain) list-now pages-now (ne_eqb (place_of filling.key) place other)
             (away-elsewhere place (place_of filling.key) all (onlyat-append place (acts.Release s.number key ∷ []) behind (onlyat-release s.number key) behind-at) other) was
 

@@ -326,6 +326,22 @@ module _ {T : Type 0} (z : Shape) (ok : IsShape z) (history : List Act) (lanes :
           let with_lane : published content references mark ≡ with lane.number = sym is ∙ (own.chained place (has-some place chain (omega arith))).with_lane in
           cc with_lane))
 
+      -- nor was a retired one
+      away-retired : (place : ℕ) → (pool_after z history place).phase ≡ retired → times place (returned_places z lane.number chain threads) ≡ 0
+      away-retired place is = no_times (times place (returned_places z lane.number chain threads)) (λ some.
+          let front = times-append place chain (stacked lane.number threads z.lanes) in
+          dite (ℕ_discrete (times place chain) 0)
+          (λ unchained.
+          let at_home : retired ≡ home = sym is ∙ stacked-home z history lanes states (slots_items old) last lane state own place (omega arith) in
+          cc at_home)
+          (λ chained.
+          let with_lane : retired ≡ with lane.number = sym is ∙ (own.chained place (has-some place chain (omega arith))).with_lane in
+          cc with_lane))
+
+      retired-bits : (place : ℕ) → is_place z place ≡ true → shard_of place ≡ lane.number → (pool_after z history place).phase ≡ retired
+          → state_in ((words_in z (slots_items mid)).life place) ≡ 2
+      retired-bits place inside of_shard is = ap state_in (last-word place of_shard (away-retired place is)) ∙ ((last.state place inside).0 ∙ ap bits_of is)
+
       published-bits : (place : ℕ) → is_place z place ≡ true → shard_of place ≡ lane.number → (content : List ℕ) (references : ℕ → ℕ) (mark : Bool)
           → (pool_after z history place).phase ≡ published content references mark
           → (state_in ((words_in z (slots_items mid)).life place) ≡ 1) ⊎ (state_in ((words_in z (slots_items mid)).life place) ≡ 3)
@@ -344,6 +360,7 @@ module _ {T : Type 0} (z : Shape) (ok : IsShape z) (history : List Act) (lanes :
           → HasNoCell z (slots_items cells) place ((words_in z (slots_items mid)).life place) → IsDrained z history lanes (slots_items cells) place
       drained cells place inside of_shard none = record {
         spread = λ content references mark is. none.unspread (published-bits place inside of_shard content references mark is);
+        retires = λ is. none.unretired (retired-bits place inside of_shard is);
         returned = λ is.
             let on = home-stacked z history lanes states (slots_items old) last lane state own place inside of_shard is in
             let front = times-append place chain (stacked lane.number threads z.lanes) in
@@ -407,6 +424,13 @@ module _ {T : Type 0} (z : Shape) (ok : IsShape z) (history : List Act) (lanes :
         spreads bits some home is same = absurd (⊎_elim (λ one. omega (arith, one, same)) (λ three. omega (arith, three, same)) some)
         spreads bits some retired is same = absurd (⊎_elim (λ one. omega (arith, one, same)) (λ three. omega (arith, three, same)) some)
 
+        retires : (bits : ℕ) → bits ≡ 2 → (phase : Phase) → (pool_after z history place).phase ≡ phase → bits ≡ bits_of phase → IsResting spots z (slots_items cells_old) place
+        retires bits two (with owner) is same = absurd (omega (arith, two, same))
+        retires bits two (published content references false) is same = absurd (omega (arith, two, same))
+        retires bits two (published content references true) is same = absurd (omega (arith, two, same))
+        retires bits two home is same = absurd (omega (arith, two, same))
+        retires bits two retired is same = cells.retires place inside is
+
         -- what the slots of a place of the shard have, by its word, which is 0 where it was returned
         has-cell : HasCell spots z (slots_items cells_now) place ((words_in z (slots_items mid)).life place)
         has-cell = cell-stays z (slots_items cells_old) (slots_items cells_now) place ((words_in z (slots_items mid)).life place) inside same-slots (record {
@@ -414,6 +438,13 @@ module _ {T : Type 0} (z : Shape) (ok : IsShape z) (history : List Act) (lanes :
               (λ (unreturned : times place (returned_places z lane.number chain threads) ≡ 0).
               absurd (word-some z history lanes states (slots_items old) last lane state own place inside (sym (last-word mid returned place of_shard unreturned) ∙ none)))
               (λ there. rests (omega arith));
+          retired = λ two. dite (ℕ_discrete (times place (returned_places z lane.number chain threads)) 0)
+              (λ (unreturned : times place (returned_places z lane.number chain threads) ≡ 0).
+              retires (state_in ((words_in z (slots_items mid)).life place)) two (pool_after z history place).phase refl
+              (ap state_in (last-word mid returned place of_shard unreturned) ∙ (last.state place inside).0))
+              (λ there.
+              let gone : state_in ((words_in z (slots_items mid)).life place) ≡ 0 = ap state_in ((blanked-mid mid returned).gone place (omega arith)) in
+              absurd (omega (arith, two, gone)));
           spread = λ bits. dite (ℕ_discrete (times place (returned_places z lane.number chain threads)) 0)
               (λ (unreturned : times place (returned_places z lane.number chain threads) ≡ 0).
               spreads (state_in ((words_in z (slots_items mid)).life place)) bits (pool_after z history place).phase refl

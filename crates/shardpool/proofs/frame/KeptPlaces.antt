@@ -1,5 +1,5 @@
 -- What stays of a lane's places, and of what it keeps, while it makes steps and moves.
-use Rattle.std.proofs.Common.{◌≡◌, ℕ, zero, suc, ◌+◌, ◌<◌, ◌≤◌, Bool, false, cond, ◌==◌, ◌&&◌, List, [], ◌∷◌, ◌++◌, length, slice_set, sym, ap, ◌∙◌, subst, arith, ne_eqb, eq-eqb, length-append, get_or-set_other}
+use Rattle.std.proofs.Common.{◌≡◌, ⊎_elim, ℕ, zero, suc, ◌+◌, ◌<◌, ◌≤◌, Bool, false, cond, ◌==◌, ◌&&◌, List, [], ◌∷◌, ◌++◌, length, slice_set, sym, ap, ◌∙◌, subst, arith, ne_eqb, eq-eqb, length-append, get_or-set_other}
 use Rattle.std.specs.List.{All}
 use Rattle.std.proofs.lemmas.Grind.{get_or-set_at}
 use Rattle.std.proofs.lemmas.List.{append_cancel_left, length-set}
@@ -23,15 +23,17 @@ use Rattle.poolsteps.specs.Views.{the_lane, pushed_in, known_of}
 use Rattle.poolsteps.specs.Told.{MayPublish, IsIdle}
 use Rattle.shardpool.specs.Acted.{Acted}
 use Rattle.shardpool.proofs.parts.Going.{all-acts}
-use Rattle.shardpool.specs.Places.{IsBlank, IsResting, left_with}
+use Rattle.shardpool.specs.Places.{IsBlank, IsResting, left_with, has_retired}
 use Rattle.shardpool.specs.LaneStates.{FitsSeat, FitsTops}
 use Rattle.shardpool.proofs.frame.OtherShards.{NoneAbroad, abroad-append}
 use Rattle.shardpool.proofs.frame.Frames.{Passes}
+use Rattle.shardpool.proofs.frame.RetiredPlaces.{Retires, retired-append}
 
 -- ---- what the lane keeps beside its seat
 
-pub seat-passes : {z : Shape} {at : ℕ → Bool} {made : List Act} {v w : View} {n : ℕ} → FitsSeat z v n → Passes z at made v w → IsIdle w → NoneAbroad z n made → FitsSeat z w n
-seat-passes {z = z} {made = made} {v = v} {n = n} seat passes idle alone = record {
+pub seat-passes : {z : Shape} {at : ℕ → Bool} {made : List Act} {v w : View} {n : ℕ} → FitsSeat z v n → Passes z at made v w → IsIdle w → NoneAbroad z n made
+    → Retires z at made v w → FitsSeat z w n
+seat-passes {z = z} {made = made} {v = v} {n = n} seat passes idle alone retires = record {
   shape = seat.shape;
   one = passes.acted.one;
   number_is = seat.number_is ∙ sym passes.acted.lane;
@@ -45,6 +47,10 @@ seat-passes {z = z} {made = made} {v = v} {n = n} seat passes idle alone = recor
       ∙ (length-append v.rooms rooms.0 ∙ (ap (λ (m : ℕ). m + length rooms.0) seat.paired ∙ sym rooms.2));
   alone = λ place inside other. ap (λ (xs : List Act). left_with z place xs false) passes.acted.mine
       ∙ abroad-append z n (the_lane v).mine made seat.alone alone place inside other;
+  retires = λ place inside is. ⊎_elim
+      (λ still number below. passes.deeds place number still.0 ∙ seat.retires place inside still.1 number below)
+      (λ rests. rests)
+      (retires place inside (sym (retired-append z place (the_lane v).mine made false) ∙ (sym (ap (λ (xs : List Act). has_retired z place xs false) passes.acted.mine) ∙ is)));
 }
 
 pub last_pushed-same : {z : Shape} {v w : View} {last_pushed : List ℕ} → FitsTops z v last_pushed → (the_lane w).pushed ≡ (the_lane v).pushed → FitsTops z w last_pushed

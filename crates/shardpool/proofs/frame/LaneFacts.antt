@@ -71,17 +71,18 @@ module _ (z : Shape) (lane p : ℕ) where
 
 -- a filling of the lane is one after what the lane did, where its slots weren't touched, it wasn't given away, and the list gained what was freed alone
 pub made-passes : {T : Type 0} {at : ℕ → Bool} {made : List Act} (z : Shape) (old new : LaneOf) (filling : FillingOf T) → old.shape ≡ z → new.shape ≡ z
-    → (the_lane old.book).lane ≡ old.number → new.number ≡ old.number → new.table ≡ old.table
+    → (the_lane old.book).lane ≡ old.number → new.number ≡ old.number → new.table ≡ old.table → new.directory ≡ old.directory
     → Passes z at made old.book new.book → length old.book.rooms ≡ length old.book.seen → (the_lane old.book).mine ≡ acts_of (the_lane old.book).lane old.book.seen
     → IsIdle new.book → (the_lane new.book).chain ≡ (the_lane old.book).chain → new.free ≡ record old.free { own = old.free.own ++ freed z old.number made }
     → new.pages ≡ old.pages → at (place_of filling.key) ≡ false → All (λ act. gives_away act (place_of filling.key) ≡ false) made
     → Made old filling → Made new filling
-made-passes {made = made} z old new filling shape shape_now number same table passes paired own idle chain list pages off keeps was =
+made-passes {made = made} z old new filling shape shape_now number same table directory passes paired own idle chain list pages off keeps was =
     let p : ℕ = place_of filling.key in
     let is : (pool_after z old.book.seen p).phase ≡ with (the_lane old.book).lane
     = subst (λ (y : Shape). (pool_after y old.book.seen p).phase ≡ with (the_lane old.book).lane) shape (was.place.with_lane ∙ ap with (sym number)) in
     let still = still-with passes.acted paired own p is keeps in record {
       table = was.table ∙ sym table;
+      directory = was.directory ∙ sym directory;
       place = record {
         inside = subst (λ (y : Shape). is_place y p ≡ true) (shape ∙ sym shape_now) was.place.inside;
         own = was.place.own ∙ sym same;

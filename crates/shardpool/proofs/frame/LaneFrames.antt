@@ -201,7 +201,7 @@ module _ (z : Shape) (lane place generation : ℕ) where
   all-at None claim = onlyat-none place
   all-at (Some (Own whole)) claim = claim
   all-at (Some Returned) claim = onlyat-append place (reclaim z lane place generation ∷ []) (acts.Home lane place ∷ []) claim (onlyat-home place lane)
-  all-at (Some (Retired vacancy)) claim = claim
+  all-at (Some Retired) claim = claim
 
   -- the acts by which a place was reclaimed
   pub onlyat-end : {T : Type 0} (reclaimed : Option (Reclaimed T)) → IsShape z → is_place z place ≡ true → OnlyAt place (end_acts z lane place generation reclaimed)

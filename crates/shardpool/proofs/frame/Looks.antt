@@ -29,8 +29,8 @@ bare-sees sees = record { goes = sees.goes; held = refl; steps = sees.steps; loo
 
 pub filled : {T : Type 0} (content : T → List ℕ) (room : T → ℕ) (was new : LaneOf) (place : ℕ) (object : T) (filling : FillingOf T) → FitsSeat was.shape was.book was.number
     → IsLoose content room was place object → Sees {S = Unit {0}} was.shape (was.book, []) (new.book, []) → SameLane was new → new.free ≡ was.free → new.pages ≡ was.pages
-    → filling.table ≡ was.table → filling.start ≡ slot_start was.shape place → place_of filling.key ≡ place → filling.object ≡ object → MayPublish was.shape new.book filling.key → Fills was new place object filling
-filled content room was new place object filling seat loose sees same free pages table start at object_is may =
+    → filling.table ≡ was.table → filling.directory ≡ was.directory → filling.start ≡ slot_start was.shape place → place_of filling.key ≡ place → filling.object ≡ object → MayPublish was.shape new.book filling.key → Fills was new place object filling
+filled content room was new place object filling seat loose sees same free pages table directory start at object_is may =
     let passes = passes-sees sees in
     let chain = same-chain sees in
     let none = All-nil (λ act. gives_away act place ≡ false) in
@@ -46,6 +46,7 @@ filled content room was new place object filling seat loose sees same free pages
     } in record {
       made = record {
         table = table ∙ sym same.0;
+        directory = directory ∙ sym same.3;
         place = subst (IsFilling new) (sym at) fills;
         start = start ∙ (λ i. slot_start (sym same.1 i) (sym at i));
         may = subst (λ (z : Shape). MayPublish z new.book filling.key) (sym same.1) may;

@@ -1,5 +1,5 @@
 -- What a lane keeps, and its fillings, stay as they are when it does what doesn't concern them; so they do over a look.
-use Rattle.std.proofs.Common.{◌≡◌, ℕ, ◌≤◌, Bool, true, false, List, [], Option, refl, ap, sym, ◌∙◌, subst, arith, append-nil}
+use Rattle.std.proofs.Common.{◌≡◌, ℕ, ◌≤◌, Bool, true, false, List, [], Option, refl, ap, sym, ◌∙◌, subst, arith, append-nil, inl}
 use Rattle.std.specs.List.{All, Contains}
 use Rattle.std.proofs.lemmas.List.Elements.{All-nil}
 use mathlib.Core.Logic.{dite}
@@ -33,7 +33,6 @@ use Rattle.shardpool.proofs.frame.LaneFrames.{passes-sees, passes-refs, onlyat-n
 use Rattle.shardpool.proofs.frame.Standing.{sees-on}
 use Rattle.shardpool.proofs.frame.KeptPlaces.{seat-passes, last_pushed-same, still-with, may-passes}
 use Rattle.shardpool.proofs.free.Stores.{stores-still}
-use Rattle.shardpool.proofs.free.Rights.{rights-still, unbrought-none}
 use Rattle.shardpool.proofs.references.Rows.{rows-pass}
 
 -- ---- fillings
@@ -56,6 +55,7 @@ made-passes old new filling passes seat same idle off kept unlisted unchained op
     let with_old : (pool_after old.shape old.book.seen place).phase ≡ with (the_lane old.book).lane = was.with_lane ∙ ap with seat.number_is in
     let number : (the_lane new.book).lane ≡ new.number = passes.acted.lane ∙ (sym seat.number_is ∙ sym same.2) in record {
       table = made.table ∙ sym same.0;
+      directory = made.directory ∙ sym same.3;
       place = record {
         inside = ap (λ (z : Shape). is_place z place) same.1 ∙ was.inside;
         own = was.own ∙ sym same.2;
@@ -128,10 +128,10 @@ fits-sees sees fits =
     let seat = fits.seat in record {
       shape_is = fits.shape_is;
       placed = fits.placed;
-      seat = seat-passes seat passes (still-idle sees seat.idle) (λ place inside other. refl);
+      seat = seat-passes seat passes (still-idle sees seat.idle) (λ place inside other. refl) (λ place inside is. inl (refl, is));
       last_pushed = last_pushed-same fits.last_pushed (same-pushed sees);
       rows = rows-pass passes seat.own fits.rows (λ place row inside stands fit. ((λ some. refl), (λ key n here. refl))) refl;
       stores = stores-still fits.stores {place = 0} seat.paired seat.own (same-chain sees) (onlyat-none 0) passes (All-nil (λ act. gives_away act 0 ≡ false));
-      rights = rights-still fits.rights passes.acted (same-chain sees) (λ p. unbrought-none p);
+      rights = fits.rights;
       standing = fits.standing;
     }

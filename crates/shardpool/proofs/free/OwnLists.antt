@@ -1,15 +1,13 @@
 -- What a lane is once the first place of its list is taken off it, or its next page is opened.
-use Rattle.std.proofs.lemmas.Bool.{cases_Bool}
-use Rattle.std.proofs.Common.{◌≡◌, ⊎_elim, ℕ, ◌+◌, ◌<◌, ◌≤◌, true, false, zero, suc, List, [], ◌∷◌, Option, Some, None, refl, ap, sym, ◌∙◌, subst, arith}
+use Rattle.std.proofs.Common.{◌≡◌, ℕ, ◌+◌, ◌<◌, ◌≤◌, false, zero, suc, List, [], ◌∷◌, Option, Some, None, refl, ap, sym, ◌∙◌, subst, arith}
 use Rattle.std.specs.Prelude.{slice_get, slice_set}
 use Rattle.std.specs.List.{All, Contains}
 use Rattle.std.proofs.lemmas.List.Elements.{All-nil, All-cons, All-contains, Contains-append_right}
 use denote.RawPtr.{Ptr}
 use Rattle.atomic_table.specs.Seated.{TableId}
 use Rattle.keybits.specs.declared.place.Place.{Place}
-use Rattle.keybits.specs.declared.shape.Shape.{Shape}
 use Rattle.keybits.specs.Places.{shard_of, page_of, number_of}
-use Rattle.keybits.specs.Shapes.{is_place, index_of, page_size}
+use Rattle.keybits.specs.Shapes.{index_of, page_size}
 use Rattle.keybits.specs.Keys.{place_of}
 use Rattle.keybits.proofs.PlaceLemmas.{page_of-place_at}
 use Rattle.keybits.proofs.ShapeLemmas.{page_size-le}
@@ -25,7 +23,7 @@ use Rattle.shardpool.specs.Lanes.{Made}
 use Rattle.shardpool.specs.Places.{IsBlank}
 use Rattle.poolsteps.specs.Objects.{ObjectsOf}
 use Rattle.shardpool.specs.LaneStates.{FitsStores, FitsRights, Fits}
-use Rattle.shardpool.proofs.free.Rights.{rights-items, rights-grow, left-with}
+use Rattle.shardpool.proofs.free.Rights.{rights-set, rights-opened}
 use Rattle.shardpool.proofs.references.Standings.{standing-same}
 use Rattle.shardpool.specs.Stores.{TakesOwn}
 use Rattle.shardpool.specs.Creates.{page_slots, IsLoose, Pops}
@@ -41,6 +39,7 @@ pub made-stays : {T : Type 0} (old : LaneOf) (free : FreePlaces) (pages : ShardP
 made-stays old free pages filling unlisted opened made =
     let was = made.place in record {
       table = made.table;
+      directory = made.directory;
       place = record {
         inside = was.inside;
         own = was.own;
@@ -80,6 +79,12 @@ module _ {T : Type 0} {content : T → List ℕ} {room : T → ℕ} {v : View} {
     pub popped-inside : OwnNumber s.shape (number_of first) first
     popped-inside = own-inside s.shape s.free first fits.seat.shape (lane-low fits) fits.stores.lists.1 (subst (λ (f : FreePlaces). IsOwn f.shard f.shape first) takes.own takes.away.own)
 
+    -- of the lane's shard
+    popped-own : shard_of (number_of first) ≡ (the_lane v).lane
+    popped-own =
+        let ok = takes.free in
+        shard_of-number t.free.shape t.free.shard first ok.limits takes.away.own ∙ (ap (λ (f : FreePlaces). f.shard) takes.own ∙ fits.stores.lists.0)
+
     -- what is left fits
     pub popped-fits : Fits content room t.shape v t
     popped-fits =
@@ -94,7 +99,9 @@ module _ {T : Type 0} {content : T → List ℕ} {room : T → ℕ} {v : View} {
           rows = fits.rows;
           stores = subst (λ (xs : List (Option T)). FitsStores content room s.shape v t.free s.pages xs) (sym (ap (λ o. o.items) takes.objects))
               (subst (λ (f : FreePlaces). FitsStores content room s.shape v f s.pages (slice_set s.objects.items (index_of s.shape (number_of first)) None)) (sym takes.own) stores);
-          rights = subst (λ (o : ObjectsOf T). FitsRights s.shape v o) (sym takes.objects) (rights-items fits.rights refl refl refl);
+          rights = subst (λ (o : ObjectsOf T). FitsRights s.shape s.number s.pages.opened o) (sym takes.objects)
+              (rights-set fits.rights fits.seat.shape (number_of first) false popped-inside.is_in
+              (popped-own ∙ sym fits.seat.number_is) (first-listed fits.stores takes.list).opened_is refl refl);
           standing = standing-same refl (ap (λ o. o.directory) takes.objects) fits.standing;
         } in
         subst (λ (x : LaneState T). Fits content room x.shape v x) (sym takes.rest) now
@@ -116,8 +123,7 @@ module _ {T : Type 0} {content : T → List ℕ} {room : T → ℕ} {v : View} {
           subst (λ (lane : LaneOf). IsLoose content room lane (number_of first) object) (sym popped-lane) (record {
             filling = record {
               inside = popped-inside.is_in;
-              own = shard_of-number t.free.shape t.free.shard first ok.limits takes.away.own
-                  ∙ (ap (λ (f : FreePlaces). f.shard) takes.own ∙ (fits.stores.lists.0 ∙ sym fits.seat.number_is));
+              own = popped-own ∙ sym fits.seat.number_is;
               opened = listed.opened_is;
               with_lane = listed.blank.with_lane ∙ ap with (sym fits.seat.number_is);
               unlisted = λ at within is. takes.away.unlisted (subst (λ (p : Place). Contains t.free.own p)
@@ -156,16 +162,6 @@ module _ {T : Type 0} {content : T → List ℕ} {room : T → ℕ} {v : View} {
       let opened = made.place.opened in absurd (omega (arith, here, there, opened)))
       (let more = ap (λ (p : ShardPages). p.opened) opens.pages in omega (arith, more)) made)
 
--- the lane has the right to each place of its unopened pages
-pub unopened-right : {T : Type 0} {content : T → List ℕ} {room : T → ℕ} {z : Shape} {v : View} {s : LaneState T} → Fits content room z v s → (place : ℕ) → is_place z place ≡ true
-    → shard_of place ≡ (the_lane v).lane → s.pages.opened ≤ page_of place → slice_get s.objects.rights (index_of z place) ≡ Some true
-unopened-right {z = z} {v = v} {s = s} fits place inside own high =
-    let blank = fits.stores.unopened place inside own high in
-    fits.rights.has_right place inside own (left-with fits.seat place own blank.with_lane) (⊎_elim
-    (λ (in_it : has (the_lane v).chain place ≡ true). let low = (fits.stores.chained place in_it).1 in absurd (omega (arith, low, high)))
-    (λ (isnt : has (the_lane v).chain place ≡ false). isnt)
-    (cases_Bool (has (the_lane v).chain place)))
-
 -- what the lane keeps fits when its next page is opened
 pub opened-fits : {T : Type 0} {content : T → List ℕ} {room : T → ℕ} {v : View} {s t : LaneState T} → Fits content room s.shape v s → OpensNext content room s t
     → Fits content room t.shape v t
@@ -178,7 +174,7 @@ opened-fits {T = T} {content = content} {room = room} {v = v} {s = s} {t = t} fi
       last_pushed = fits.last_pushed;
       rows = fits.rows;
       stores = opens.fits v fits.stores;
-      rights = rights-grow fits.rights opens.same.1 opens.same.2 opens.wide opens.rights;
+      rights = subst (λ (n : ℕ). FitsRights s.shape s.number n t.objects) (sym (ap (λ (p : ShardPages). p.opened) opens.pages)) (rights-opened fits.rights opens.same.1 opens.wide opens.rights);
       standing = standing-same refl opens.same.0 fits.standing;
     } in
     subst (λ (x : LaneState T). Fits content room x.shape v x) (sym opens.rest) now

@@ -21,8 +21,6 @@ use Rattle.shardpool.specs.declared.pool.LaneState.{LaneState}
 use Rattle.shardpool.specs.Places.{IsBlank}
 use Rattle.shardpool.specs.LaneStates.{FitsStores}
 use Rattle.shardpool.specs.Stores.{KeepsOwn, SameRows}
-use Rattle.std.specs.declared.alloc.Global.{Global}
-use Rattle.std_alloc.specs.declared.boxed.Box.{Box}
 use Rattle.shardpool.specs.Creates.{page_slots}
 use Rattle.shardpool.specs.Openings.{OpensNext}
 use Rattle.shardpool.proofs.free.Stores.{stands-here, stands-else, FitsShelf, numbered, blank-wider, stores-opened, stores-kept}
@@ -78,22 +76,22 @@ pub record MayOpen {T : Type 0} (old : LaneState T) : Type 0 where
 
 module _ {T : Type 0} (content : T → List ℕ) (room : T → ℕ) (old : LaneState T) where
   -- the page is opened, its first slots are on the list, and these objects are left for the others
-  pub record OpensSlots (left : List (Box T Global)) (now : LaneState T) : Type 0 where
+  pub record OpensSlots (left : List T) (now : LaneState T) : Type 0 where
     pub slots : ℕ
     pub list : now.free ≡ record old.free { own = page_slots old.number old.pages.opened 0 slots }
     pub pages : now.pages ≡ record old.pages { opened = old.pages.opened + 1 }
     pub rest : now ≡ record old { free = now.free; pages = now.pages; objects = now.objects }
     pub narrow : length now.objects.items ≡ shard_places old.shape
     pub left_is : slots + length left ≡ page_size old.shape old.pages.opened
-    pub empty : All (λ object. content object.value ≡ []) left
+    pub empty : All (λ object. content object ≡ []) left
     pub same : SameRows old.objects now.objects
     pub wide : length now.objects.rights ≡ length old.objects.rights
     pub rights : (index : ℕ) → slice_get old.objects.rights index ≡ Some true → slice_get now.objects.rights index ≡ Some true
     pub fits : (v : View) → FitsShelf content room old.shape v old → FitsShelf content room old.shape v now
 
   -- at first none is
-  pub none-on : (pages : ShardPages) (left : List (Box T Global)) → old.free.own ≡ [] → pages ≡ record old.pages { opened = old.pages.opened + 1 }
-      → length old.objects.items ≡ shard_places old.shape → length left ≡ page_size old.shape old.pages.opened → All (λ object. content object.value ≡ []) left
+  pub none-on : (pages : ShardPages) (left : List T) → old.free.own ≡ [] → pages ≡ record old.pages { opened = old.pages.opened + 1 }
+      → length old.objects.items ≡ shard_places old.shape → length left ≡ page_size old.shape old.pages.opened → All (λ object. content object ≡ []) left
       → OpensSlots left (record old { pages = pages })
   none-on pages left none is narrow count empty = record {
     slots = 0;
@@ -103,7 +101,7 @@ module _ {T : Type 0} (content : T → List ℕ) (room : T → ℕ) (old : LaneS
     narrow = narrow;
     left_is = omega (arith, count);
     empty = empty;
-    same = (refl, refl, refl);
+    same = (refl, refl);
     wide = refl;
     rights = λ index has. has;
     fits = λ v fits. subst (λ (p : ShardPages). FitsStores content room old.shape v old.free p old.objects.items) (sym is)
@@ -124,7 +122,7 @@ module _ {T : Type 0} (content : T → List ℕ) (room : T → ℕ) (old : LaneS
       }
 
   -- ---- the next slot
-  module _ (may : MayOpen old) (now : LaneState T) {object : Box T Global} {left : List (Box T Global)} (on : OpensSlots (object ∷ left) now) where
+  module _ (may : MayOpen old) (now : LaneState T) {object : T} {left : List T} (on : OpensSlots (object ∷ left) now) where
     abbrev place : ℕ
     place = place_at old.number old.pages.opened on.slots
 
@@ -184,7 +182,7 @@ module _ {T : Type 0} (content : T → List ℕ) (room : T → ℕ) (old : LaneS
         }
 
     -- and with it one more is there
-    pub one-on : (next : LaneState T) → KeepsOwn place object.value now next → OpensSlots left next
+    pub one-on : (next : LaneState T) → KeepsOwn place object now next → OpensSlots left next
     one-on next keeps =
         let slot : Place = record { shard = old.number; page = old.pages.opened; slot = on.slots } in
         let is : place_numbered place ≡ slot = λ i. record { shard = shard-is i; page = page-is i; slot = slot-of-is i } in
@@ -193,18 +191,18 @@ module _ {T : Type 0} (content : T → List ℕ) (room : T → ℕ) (old : LaneS
         = ap (λ (f : FreePlaces). f.own ++ place_numbered place ∷ []) on.list
         ∙ (ap (λ (p : Place). page_slots old.number old.pages.opened 0 on.slots ++ p ∷ []) is
         ∙ sym (slots-more old.number old.pages.opened 0 on.slots ∙ ap (λ (s : ℕ). page_slots old.number old.pages.opened 0 on.slots ++ record { shard = old.number; page = old.pages.opened; slot = s } ∷ []) (let same : 0 + on.slots ≡ on.slots = omega arith in same))) in
-        let objects : next.objects.items ≡ slice_set now.objects.items (index_of old.shape place) (Some object.value)
-        = keeps.objects ∙ ap (λ (z : Shape). slice_set now.objects.items (index_of z place) (Some object.value)) same-shape in record {
+        let objects : next.objects.items ≡ slice_set now.objects.items (index_of old.shape place) (Some object)
+        = keeps.objects ∙ ap (λ (z : Shape). slice_set now.objects.items (index_of z place) (Some object)) same-shape in record {
           slots = suc on.slots;
           list = keeps.list ∙ (ap (λ (ps : List Place). record now.free { own = ps }) own
               ∙ ap (λ (f : FreePlaces). record f { own = page_slots old.number old.pages.opened 0 (suc on.slots) }) on.list);
           pages = pages ∙ on.pages;
           rest = keeps.rest ∙ (ap (λ (s : LaneState T). record s { objects = next.objects; free = next.free }) on.rest
               ∙ ap (λ (p : ShardPages). record old { free = next.free; pages = p; objects = next.objects }) (sym pages));
-          narrow = ap (λ (xs : List (Option T)). length xs) objects ∙ (length-set now.objects.items (index_of old.shape place) (Some object.value) ∙ on.narrow);
+          narrow = ap (λ (xs : List (Option T)). length xs) objects ∙ (length-set now.objects.items (index_of old.shape place) (Some object) ∙ on.narrow);
           left_is = let was = on.left_is in omega (arith, was);
-          empty = All-tail (λ x. content x.value ≡ []) object left on.empty;
-          same = (keeps.same.0 ∙ on.same.0, keeps.same.1 ∙ on.same.1, keeps.same.2 ∙ on.same.2);
+          empty = All-tail (λ x. content x ≡ []) object left on.empty;
+          same = (keeps.same.0 ∙ on.same.0, keeps.same.1 ∙ on.same.1);
           wide = ap (λ (xs : List Bool). length xs) keeps.rights ∙ (length-set now.objects.rights (index_of now.shape place) true ∙ on.wide);
           rights = λ index has. subst (λ (xs : List Bool). slice_get xs index ≡ Some true) (sym keeps.rights) (stays-true now.objects.rights (index_of now.shape place) index (on.rights index has));
           fits = λ v was.
@@ -212,10 +210,10 @@ module _ {T : Type 0} (content : T → List ℕ) (room : T → ℕ) (old : LaneS
               let lane : shard_of place ≡ (the_lane v).lane = shard-is ∙ (sym may.shard ∙ was.lists.0) in
               let high : old.pages.opened ≤ page_of place = let e = page-is in omega (arith, e) in
               let opened : page_of place < now.pages.opened = let e = page-is in let more = ap (λ (p : ShardPages). p.opened) on.pages in omega (arith, e, more) in
-              let blank : IsBlank old.shape v place (room object.value) = blank-wider (omega arith) (was.unopened place inside lane high) in
-              let kept = stores-kept fits {place = place} {object = object.value} (subst AreFree keeps.list keeps.free) inside opened absent blank
-              (All-head (λ x. content x.value ≡ []) object left on.empty) in
+              let blank : IsBlank old.shape v place (room object) = blank-wider (omega arith) (was.unopened place inside lane high) in
+              let kept = stores-kept fits {place = place} {object = object} (subst AreFree keeps.list keeps.free) inside opened absent blank
+              (All-head (λ x. content x ≡ []) object left on.empty) in
               subst (λ (p : ShardPages). FitsStores content room old.shape v next.free p next.objects.items) (sym pages)
               (subst (λ (xs : List (Option T)). FitsStores content room old.shape v next.free now.pages xs) (sym objects)
-              (subst (λ (f : FreePlaces). FitsStores content room old.shape v f now.pages (slice_set now.objects.items (index_of old.shape place) (Some object.value))) (sym keeps.list) kept));
+              (subst (λ (f : FreePlaces). FitsStores content room old.shape v f now.pages (slice_set now.objects.items (index_of old.shape place) (Some object))) (sym keeps.list) kept));
         }

@@ -268,24 +268,6 @@ module _ {T : Type 0} {content : T → List ℕ} {room : T → ℕ} {z : Shape} 
         first = fits.first;
       }
 
-  -- what waits at a place of the shard that isn't listed may change
-  pub stores-changed : {place : ℕ} (x : Option T) → AreFree free → is_place z place ≡ true → shard_of place ≡ (the_lane w).lane
-      → ((at : Place) → Contains free.own at → number_of at ≢ place) → FitsStores content room z w free pages (slice_set objects (index_of z place) x)
-  stores-changed {place = place} x ok inside own absent =
-      let new : Place = place_numbered place in
-      let here : index_of z (number_of new) ≡ index_of z place = ap (index_of z) (numbered place) in record {
-        lists = fits.lists;
-        paged = fits.paged;
-        narrow = length-set objects (index_of z place) x ∙ fits.narrow;
-        listed = λ at within. listed-else at (index_of z place) x
-            (λ same. absent at within (ap number_of (same-index free refl ok at new
-            (All-contains (IsOwn free.shard free.shape) free.own at ok.own.inside within) (own-numbered place inside own) (same ∙ sym here)) ∙ numbered place)) within;
-        unopened = fits.unopened;
-        chained = fits.chained;
-        unrepeated = fits.unrepeated;
-        first = fits.first;
-      }
-
   -- the first place of the list comes off it, and its object is taken out
   pub stores-popped : {p : Place} {rest : List Place} (x : Option T) → free.own ≡ p ∷ rest → AreFree (record free { own = rest }) → IsAway (record free { own = rest }) p
       → FitsStores content room z w (record free { own = rest }) pages (slice_set objects (index_of z (number_of p)) x)
@@ -352,14 +334,14 @@ abbrev pub IsKeepable : {T : Type 0} → (T → List ℕ) → (T → ℕ) → Sh
 IsKeepable content room z v place None = Unit {0}
 IsKeepable content room z v place (Some (Own whole)) = (shard_of place ≡ (the_lane v).lane) × (content whole.object ≡ []) × IsBlank z v place (room whole.object)
 IsKeepable content room z v place (Some Returned) = Unit {0}
-IsKeepable content room z v place (Some (Retired vacancy)) = Unit {0}
+IsKeepable content room z v place (Some Retired) = Unit {0}
 
 -- the stores still fit after that was kept
 pub stores-reclaimed : {T : Type 0} {content : T → List ℕ} {room : T → ℕ} {z : Shape} {v : View} {place : ℕ} (s t : LaneState T) (reclaimed : Option (Reclaimed T)) → s.shape ≡ z
     → is_place z place ≡ true → FitsShelf content room z v s → IsApart z v s.free s.pages place → IsKeepable content room z v place reclaimed → Keeps place reclaimed s t
     → FitsShelf content room z v t
 stores-reclaimed {content = content} {room = room} {z = z} {v = v} s t None shape inside fits apart may keeps = subst (λ x. FitsShelf content room z v x) (sym keeps) fits
-stores-reclaimed {content = content} {room = room} {z = z} {v = v} s t (Some (Retired vacancy)) shape inside fits apart may keeps = subst (λ x. FitsShelf content room z v x) (sym keeps) fits
+stores-reclaimed {content = content} {room = room} {z = z} {v = v} s t (Some Retired) shape inside fits apart may keeps = subst (λ x. FitsShelf content room z v x) (sym keeps) fits
 stores-reclaimed {content = content} {room = room} {z = z} {v = v} s t (Some Returned) shape inside fits apart may keeps = subst (λ x. FitsShelf content room z v x) (sym keeps.rest) fits
 stores-reclaimed {T = T} {content = content} {room = room} {z = z} {v = v} {place = place} s t (Some (Own whole)) shape inside fits apart may keeps =
     let kept = stores-kept fits {place = place} {object = whole.object} (subst AreFree keeps.list keeps.free) inside (apart.opened inside may.0) apart.unlisted may.2 may.1 in

@@ -1,8 +1,5 @@
 -- What a lane is once it took a chain, or followed the first place of its chain.
-use Rattle.std.proofs.Common.{◌≡◌, ◌≢◌, ⊎_elim, ℕ, ◌<◌, ◌≤◌, Bool, true, false, cond, eqb, List, [], ◌∷◌, length, length-set, Option, Some, None, refl, ap, sym, ◌∙◌, subst, arith, eq-eqb, ne_eqb}
-use Rattle.std.specs.Prelude.{slice_get}
-use mathlib.Core.Logic.{dite}
-use native.Mathlib.Decide.{ℕ_discrete}
+use Rattle.std.proofs.Common.{◌≡◌, ◌≢◌, ⊎_elim, ℕ, ◌<◌, ◌≤◌, Bool, true, false, cond, eqb, List, [], ◌∷◌, length, Option, Some, None, refl, ap, sym, ◌∙◌, subst, arith, eq-eqb, ne_eqb, inl}
 use Rattle.std.specs.List.{Contains}
 use Rattle.std.proofs.lemmas.Bool.{cases_Bool, eqb-false}
 use Rattle.std.proofs.lemmas.List.Elements.{All-nil}
@@ -11,8 +8,6 @@ use Rattle.atomic_table.specs.Table.{Me}
 use Rattle.keybits.specs.declared.shape.Shape.{Shape}
 use Rattle.keybits.specs.declared.place.Place.{Place}
 use Rattle.keybits.specs.Places.{page_of, number_of}
-use Rattle.keybits.specs.Shapes.{index_of}
-use Rattle.keybits.proofs.ShapeLemmas.{index_of-lt}
 use Rattle.keybits.specs.Keys.{place_of, generation_of}
 use Rattle.keybits.specs.Links.{linked_place}
 use Rattle.freelists.specs.Shards.{place_numbered}
@@ -20,7 +15,7 @@ use Rattle.freelists.specs.Queues.{FreePlaces, AreFree, IsAway, GoesOnBy}
 use Rattle.freelists.proofs.ShardLemmas.{OwnNumber}
 use Rattle.seqpool.specs.declared.act.Act.{Act}
 use Rattle.seqpool.specs.declared.act.Act.TheVariants as acts
-use Rattle.seqpool.specs.Pool.{Phase, with, has, NoRepeats, references_in, is_current, pool_after}
+use Rattle.seqpool.specs.Pool.{Phase, with, has, NoRepeats, references_in, is_current, pool_after, retired}
 use Rattle.poolsteps.specs.declared.view.Stored.{Stored}
 use Rattle.poolsteps.specs.PlaceLaws.{gives_away}
 use Rattle.poolsteps.specs.declared.view.LaneRecord.{LaneRecord}
@@ -33,22 +28,21 @@ use Rattle.shardpool.specs.HeldKeys.{HeldKey}
 use Rattle.shardpool.specs.declared.pool.LaneState.{LaneState}
 use Rattle.shardpool.specs.Tokens.{PoolOf, LaneOf, FillingOf}
 use Rattle.shardpool.specs.Lanes.{Made}
-use Rattle.shardpool.specs.Places.{IsResting, left_with}
+use Rattle.shardpool.specs.Places.{IsResting, has_retired}
 use Rattle.shardpool.specs.Stores.{FollowsOn}
-use Rattle.shardpool.specs.LaneStates.{IsFirst, FitsRow, FitsStores, FitsRights, Fits}
-use Rattle.shardpool.proofs.free.Rights.{index-injective, left-back, rights-onto, rights-still, unbrought-none, unbrought-one}
-use Rattle.shardpool.proofs.references.Standings.{standing-same}
+use Rattle.shardpool.specs.LaneStates.{IsFirst, FitsRow, FitsStores, Fits}
 use Rattle.shardpool.specs.Stores.{Hangs}
 use Rattle.shardpool.specs.Creates.{FollowsChain, TakesReturned}
 use Rattle.shardpool.proofs.frame.OtherShards.{NoneAbroad, abroad-one}
 use Rattle.shardpool.proofs.frame.Frames.{Passes}
 use Rattle.shardpool.proofs.frame.LaneFrames.{passes-refs, onlyat-none}
 use Rattle.shardpool.proofs.frame.KeptPlaces.{seat-passes, last_pushed-same}
-use Rattle.shardpool.proofs.free.Stores.{own-inside, numbered, blank-wider, stores-still, stores-changed, stands-here, stands-else}
+use Rattle.shardpool.proofs.free.Stores.{own-inside, numbered, blank-wider, stores-still}
 use Rattle.shardpool.proofs.free.Chains.{rest-unlisted, uncollected, collected-away, stores-hung, taken-deeds, taken-cells, taken-rests, stores-followed, followed-blank, link-goes-on, followed-first, first-rests}
 use Rattle.shardpool.proofs.references.Rows.{rows-pass}
 use Rattle.shardpool.proofs.frame.LaneFacts.{lane_of}
 use Rattle.shardpool.proofs.frame.SeenHistories.{same-shape, made-passes, made-still}
+use Rattle.shardpool.proofs.frame.RetiredPlaces.{Retires, retires-else, retired-phase}
 
 -- ---- rows
 
@@ -183,42 +177,25 @@ module _ {T : Type 0} {content : T → List ℕ} {room : T → ℕ} {v : View} {
       once : (has (rest_of (the_lane v).chain) place ≡ false) × NoRepeats (rest_of (the_lane v).chain)
       once = subst (λ (ps : List ℕ). NoRepeats ps) begins fits.stores.unrepeated
 
-      module _ {t : LaneState T} (on : FollowsOn place link s t) where
+      module _ {t : LaneState T} (on : FollowsOn link s t) where
         abbrev mid : LaneState T
-        mid = record s { free = t.free; objects = t.objects }
+        mid = record s { free = t.free }
 
         -- what is left fits
-        followed-stores : FitsStores content room s.shape w t.free s.pages t.objects.items
+        followed-stores : FitsStores content room s.shape w t.free s.pages s.objects.items
         followed-stores =
-            let stores = stores-followed fits.stores lane-below begins passes fits.seat.paired fits.seat.own {next = t.free.chain} follows.chain
-            (followed-first fits.stores lane-below begins follows.leads {next = t.free.chain} on.ends on.goes) in
-            let here : FitsStores content room s.shape w t.free s.pages s.objects.items
-            = subst (λ (f : FreePlaces). FitsStores content room s.shape w f s.pages s.objects.items) (sym on.list) stores in
-            subst (λ (xs : List (Option T)). FitsStores content room s.shape w t.free s.pages xs) (sym on.items)
-            (stores-changed here None on.free rested.0.inside (rested.0.own ∙ sym follows.went.acted.lane)
-            (λ one within is. rest-unlisted fits.stores lane-below place rested.0 one (subst (λ (f : FreePlaces). Contains f.own one) on.list within) is))
-
-        followed-rights : FitsRights s.shape w t.objects
-        followed-rights = rights-onto fits.rights passes.acted on.same.1 on.same.2
-            (ap (λ (xs : List Bool). length xs) on.rights ∙ length-set s.objects.rights (index_of s.shape place) true)
-            (λ p inside own left unchained. dite (ℕ_discrete p place)
-            (λ (here : p ≡ place).
-            let low : index_of s.shape place < length s.objects.rights = subst (λ (n : ℕ). index_of s.shape place < n) (sym fits.rights.narrow) (index_of-lt s.shape place rested.0.inside) in
-            subst (λ (q : ℕ). slice_get t.objects.rights (index_of s.shape q) ≡ Some true) (sym here)
-            (subst (λ (xs : List Bool). slice_get xs (index_of s.shape place) ≡ Some true) (sym on.rights) (stands-here s.objects.rights (index_of s.shape place) true low)))
-            (λ (other : p ≢ place).
-            let off : has (the_lane v).chain p ≡ false
-            = ap (λ (ps : List ℕ). has ps p) begins ∙ (ap (λ (b : Bool). cond b true (has (rest_of (the_lane v).chain) p)) (ne_eqb p place other)
-            ∙ (ap (λ (ps : List ℕ). has ps p) (sym follows.chain) ∙ unchained)) in
-            subst (λ (xs : List Bool). slice_get xs (index_of s.shape p) ≡ Some true) (sym on.rights)
-            (stands-else s.objects.rights (index_of s.shape place) true (index_of s.shape p) true
-            (λ same. other (index-injective s.shape fits.seat.shape p place inside rested.0.inside (own ∙ sym rested.0.own) same)) (fits.rights.has_right p inside own left off))))
+            subst (λ (f : FreePlaces). FitsStores content room s.shape w f s.pages s.objects.items) (sym on.list)
+            (stores-followed fits.stores lane-below begins passes fits.seat.paired fits.seat.own {next = t.free.chain} follows.chain
+            (followed-first fits.stores lane-below begins follows.leads {next = t.free.chain} on.ends on.goes))
 
         followed-mid : Fits content room s.shape w mid
         followed-mid = record {
           shape_is = fits.shape_is;
           placed = fits.placed;
-          seat = seat-passes fits.seat passes (follows.went.under ∙ fits.seat.idle) (λ p within other. refl);
+          seat = seat-passes fits.seat passes (follows.went.under ∙ fits.seat.idle) (λ p within other. refl)
+              (retires-else s.shape place [] v w (onlyat-none place) (λ was.
+              let bad : with (the_lane v).lane ≡ retired
+              = sym rested.0.with_lane ∙ retired-phase s.shape v.seen (the_lane v).mine (the_lane v).lane place fits.seat.legal fits.seat.own was in absurd (cc bad)));
           last_pushed = last_pushed-same fits.last_pushed follows.went.pushed;
           rows = rows-pass passes fits.seat.own fits.rows
               (λ p row inside is fit. (
@@ -226,8 +203,8 @@ module _ {T : Type 0} {content : T → List ℕ} {room : T → ℕ} {v : View} {
                 (λ key n here. refl),
               )) refl;
           stores = followed-stores;
-          rights = followed-rights;
-          standing = standing-same refl on.same.0 fits.standing;
+          rights = fits.rights;
+          standing = fits.standing;
         }
 
         pub followed-fits : Fits content room t.shape w t
@@ -245,7 +222,7 @@ module _ {T : Type 0} {content : T → List ℕ} {room : T → ℕ} {v : View} {
               subst (λ (lane : LaneOf). FollowsChain content room (lane_of table v s) lane place object) (sym followed-lane) (record {
                 chain = begins ∙ ap (λ (ps : List ℕ). place ∷ ps) (sym follows.chain);
                 follows = (link, follows);
-                same = (same, refl, refl, on.same.0);
+                same = (same, refl, refl, refl);
                 list = ap (λ (f : FreePlaces). f.own) on.list;
                 pages = refl;
                 loose = record {
@@ -268,7 +245,7 @@ module _ {T : Type 0} {content : T → List ℕ} {room : T → ℕ} {v : View} {
               let p : ℕ = place_of filling.key in
               let off = not-has place (rest_of (the_lane v).chain) p (sym (ap (λ (ps : List ℕ). has ps p) begins) ∙ made.place.unchained) in
               subst (λ (lane : LaneOf). Made lane filling) (sym followed-lane)
-              (made-passes (lane_of table v s) (lane_of table_now w mid) filling passes fits.seat (same, refl, refl, on.same.0)
+              (made-passes (lane_of table v s) (lane_of table_now w mid) filling passes fits.seat (same, refl, refl, refl)
               (follows.went.under ∙ fits.seat.idle) off.0 (All-nil (λ act. gives_away act p ≡ false))
               (λ one within is. made.place.unlisted one (subst (λ (f : FreePlaces). Contains f.own one) on.list within) is)
               (ap (λ (ps : List ℕ). has ps p) follows.chain ∙ off.1) (omega arith) made)
@@ -331,6 +308,14 @@ module _ {T : Type 0} {content : T → List ℕ} {room : T → ℕ} {v w : View}
       (λ (isnt : has t.places p ≡ false). isnt)
       (cases_Bool (has t.places p)))
 
+  -- and the lane retired none of them
+  took-retires : Retires s.shape (has t.places) (acts.Collect (the_lane v).lane t.places ∷ []) v w
+  took-retires p inside is =
+      let was : Bool = has_retired s.shape p (the_lane v).mine false in ⊎_elim
+      (λ (in_it : has t.places p ≡ true). let bad : false ≡ true = sym (ap (λ (b : Bool). cond b false was) in_it) ∙ is in absurd (cc bad))
+      (λ (isnt : has t.places p ≡ false). inl (isnt, sym (ap (λ (b : Bool). cond b false was) isnt) ∙ is))
+      (cases_Bool (has t.places p))
+
   -- the first of them may hang
   pub took-away : IsAway s.free (place_numbered (linked_place s.number found))
   took-away =
@@ -350,7 +335,7 @@ module _ {T : Type 0} {content : T → List ℕ} {room : T → ℕ} {v w : View}
         let now : Fits content room s.shape w mid = record {
           shape_is = fits.shape_is;
           placed = fits.placed;
-          seat = seat-passes fits.seat took-passes (t.went.under ∙ fits.seat.idle) took-alone;
+          seat = seat-passes fits.seat took-passes (t.went.under ∙ fits.seat.idle) took-alone took-retires;
           last_pushed = last_pushed-same fits.last_pushed t.went.pushed;
           rows = rows-pass took-passes fits.seat.own fits.rows
               (λ p row inside is fit. (
@@ -365,11 +350,7 @@ module _ {T : Type 0} {content : T → List ℕ} {room : T → ℕ} {v w : View}
               (stores-hung fits.stores fits.seat.paired fits.seat.own took-passes {first = first} took-chain t.once
               (λ p in_it. let one = t.collected p in_it in taken-rests (the_lane v) t.places t.stored s.shape w t.is p in_it one.0 one.1 one.2 one.3 one.4)
               begins);
-          rights = rights-onto fits.rights took-passes.acted refl refl refl (λ p inside own left unchained.
-              fits.rights.has_right p inside own
-              (left-back s.shape p (acts.Collect (the_lane v).lane t.places ∷ []) (left_with s.shape p (the_lane v).mine true)
-              (unbrought-one p (acts.Collect (the_lane v).lane t.places) (ap (λ (ps : List ℕ). has ps p) (sym took-chain) ∙ unchained)) left)
-              (ap (λ (ps : List ℕ). has ps p) (subst (λ (one : Option Place). IsFirst one (the_lane v).chain) none fits.stores.first)));
+          rights = fits.rights;
           standing = fits.standing;
         } in
         subst (λ (x : LaneState T). Fits content room x.shape w x) (sym hangs.rest) now
@@ -419,11 +400,11 @@ module _ {T : Type 0} {content : T → List ℕ} {room : T → ℕ} {v w : View}
   none-fits = record {
     shape_is = fits.shape_is;
     placed = fits.placed;
-    seat = seat-passes fits.seat none-passes (none-idle ∙ fits.seat.idle) (λ place inside other. refl);
+    seat = seat-passes fits.seat none-passes (none-idle ∙ fits.seat.idle) (λ place inside other. refl) (λ place inside is. inl (refl, is));
     last_pushed = last_pushed-same fits.last_pushed (ap (λ (r : LaneRecord). r.pushed) none-record);
     rows = rows-pass none-passes fits.seat.own fits.rows (λ place row inside stands fit. ((λ some. refl), (λ key n here. refl))) refl;
     stores = stores-still fits.stores {place = 0} fits.seat.paired fits.seat.own none-chain (onlyat-none 0) none-passes (All-nil (λ act. gives_away act 0 ≡ false));
-    rights = rights-still fits.rights none-passes.acted none-chain (λ p. unbrought-none p);
+    rights = fits.rights;
     standing = fits.standing;
   }
 

@@ -196,7 +196,7 @@ won-acts z place generation a b c r (Own whole) now lane mine pushed tail alone 
   tail.2 ∙ (ap (λ (lanes : List LaneRecord). (head_record lanes).pushed) now ∙ pushed),
   alone,
 )
-won-acts z place generation a b c r (Retired vacancy) now lane mine pushed tail alone = (
+won-acts z place generation a b c r Retired now lane mine pushed tail alone = (
   (generation, tail.1 ∙ (ap (λ (lanes : List LaneRecord). (head_record lanes).mine) now ∙ mine), tail.0),
   tail.2 ∙ (ap (λ (lanes : List LaneRecord). (head_record lanes).pushed) now ∙ pushed),
   alone,

@@ -72,7 +72,7 @@ module _ {E : Type 0} (takes : E → List ℕ → E → Type 0) where
       (published : WasPublished c.seen (key_number z.tag place generation) content) (took : takes e content f) where
     hands-reclaimed : {T : Type 0} (reclaimed : Reclaimed T) → TailActs z place generation b c reclaimed → HandsOut takes a c e f
     hands-reclaimed (Own whole) tail = (reclaim z (the_lane a).lane place generation ∷ [], tail.1 ∙ claimed, (content, published, (f, took, refl)))
-    hands-reclaimed (Retired vacancy) tail = (reclaim z (the_lane a).lane place generation ∷ [], tail.1 ∙ claimed, (content, published, (f, took, refl)))
+    hands-reclaimed Retired tail = (reclaim z (the_lane a).lane place generation ∷ [], tail.1 ∙ claimed, (content, published, (f, took, refl)))
     hands-reclaimed Returned tail =
         let home : List Act = acts.Home (the_lane b).lane place ∷ [] in (
           reclaim z (the_lane a).lane place generation ∷ home,

@@ -75,13 +75,13 @@ module _ (z : Shape) (lane place generation : ℕ) {T : Type 0} where
   end-refs None key n = refl
   end-refs (Some (Own whole)) key n = refl
   end-refs (Some Returned) key n = refl
-  end-refs (Some (Retired vacancy)) key n = refl
+  end-refs (Some Retired) key n = refl
 
   pub end-held : (reclaimed : Option (Reclaimed T)) (n : ℕ) → held_after (end_acts z lane place generation reclaimed) n ≡ n
   end-held None n = refl
   end-held (Some (Own whole)) n = refl
   end-held (Some Returned) n = refl
-  end-held (Some (Retired vacancy)) n = refl
+  end-held (Some Retired) n = refl
 
 module _ {z : Shape} {at : ℕ → Bool} {v w : View} (lane key : ℕ) where
   pub refs-got : (content : List ℕ) → Passes z at (acts.Get lane key (Some content) ∷ []) v w → (the_lane v).mine ≡ acts_of (the_lane v).lane v.seen

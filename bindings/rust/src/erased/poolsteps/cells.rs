@@ -1,11 +1,10 @@
 // Made from crates/poolsteps/src/cells.rt by tools/erase/erase.py: change that file, not this one.
 
-//! The cells of places: where a row of them begins, a share, a slot for one, the shares in one hand, the whole, a place
-//! without an object.
+//! The cells of places: where a row of them begins, a share, a slot for one, the shares in one hand, the whole.
 
-use crate::shim::{no_bytes, AllocError, Box, Gapless, Global};
+use crate::shim::{no_bytes, AllocError, Gapless};
 
-use crate::erased::poolsteps::memory::{fill, vacate, Bare, Loose, Portion};
+use crate::erased::poolsteps::memory::{Loose, Portion};
 use std::marker::PhantomData;
 use std::mem;
 
@@ -59,7 +58,7 @@ unsafe impl Sync for Address {}
 
 /// One of the shares of a place: the right to read the object in it, which nobody writes meanwhile. It has no bytes.
 pub struct Share<T> {
-    pub(crate) portion: Portion<Box<T, Global>>,
+    pub(crate) portion: Portion<T>,
 }
 
 /// How many references a lane has to a key of a place, and of which generation it is. Proofs alone know it: it has no
@@ -156,12 +155,12 @@ unsafe impl<T: Send + Sync> Sync for MaybePortion<T> {}
 
 /// A place for a share of a cell, or for none. It has no bytes.
 pub struct Slot<T> {
-    portion: MaybePortion<Box<T, Global>>,
+    portion: MaybePortion<T>,
 }
 
 // SAFETY: its fields fill it, at which the compiler looks.
 unsafe impl<T> Gapless for Slot<T> {
-    const FIELDS: usize = no_bytes::<MaybePortion<Box<T, Global>>>();
+    const FIELDS: usize = no_bytes::<MaybePortion<T>>();
 }
 
 impl<T> Slot<T> {
@@ -181,8 +180,8 @@ impl<T> Slot<T> {
     }
 
     /// Answers the object of this place, which the share shows.
-    pub fn read(&self, directory: Base<Box<T, Global>>, index: usize) -> &T {
-        &**self.portion.read(directory, index)
+    pub fn read(&self, directory: Base<T>, index: usize) -> &T {
+        self.portion.read(directory, index)
     }
 
     /// The share of the first of the two that has one.
@@ -220,7 +219,7 @@ impl<T> Slot<T> {
 
 /// The shares of a place from one number on, up to the last, all in one hand. It has no bytes.
 pub struct Rest<T> {
-    pub(crate) portion: Portion<Box<T, Global>>,
+    pub(crate) portion: Portion<T>,
 }
 
 impl<T> Rest<T> {
@@ -259,44 +258,20 @@ impl<T> Rest<T> {
     }
 }
 
-/// A place with its object, which nobody else can reach. It has no bytes: the object stands in its box.
+/// A place with its object, which nobody else can reach. It has no bytes: the object stands in the directory.
 pub struct Whole<T> {
-    pub(crate) word: Loose<Box<T, Global>>,
+    pub(crate) word: Loose<T>,
 }
 
 impl<T> Whole<T> {
-    /// Puts an object into a vacant place.
-    pub fn put(
-        vacancy: Vacancy<T>,
-        object: Box<T, Global>,
-        directory: Base<Box<T, Global>>,
-        index: usize,
-    ) -> Whole<T> {
-        let Vacancy { word } = vacancy;
-        Whole {
-            word: fill(word, directory, index, object),
-        }
-    }
-
-    /// Takes the object out of its place, which is vacant then.
-    pub fn take(
-        self,
-        directory: Base<Box<T, Global>>,
-        index: usize,
-    ) -> (Vacancy<T>, Box<T, Global>) {
-        let Whole { word } = self;
-        let (word, object) = vacate(word, directory, index);
-        (Vacancy { word }, object)
-    }
-
     /// Answers the object.
-    pub fn get(&self, directory: Base<Box<T, Global>>, index: usize) -> &T {
-        &**self.word.get(directory, index)
+    pub fn get(&self, directory: Base<T>, index: usize) -> &T {
+        self.word.get(directory, index)
     }
 
     /// Answers the object for writing.
-    pub fn get_mut(&mut self, directory: Base<Box<T, Global>>, index: usize) -> &mut T {
-        &mut **self.word.get_mut(directory, index)
+    pub fn get_mut(&mut self, directory: Base<T>, index: usize) -> &mut T {
+        self.word.get_mut(directory, index)
     }
 
     /// Lends the place in `n` shares, from 1 to 2^32, all in one hand. Each shows the object.
@@ -306,9 +281,4 @@ impl<T> Whole<T> {
             portion: Portion::lend(word, n),
         }
     }
-}
-
-/// The right to a place that has no object: to its word in the directory. It has no bytes.
-pub struct Vacancy<T> {
-    pub(crate) word: Loose<Bare<T>>,
 }

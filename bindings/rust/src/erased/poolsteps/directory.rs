@@ -1,18 +1,18 @@
 // Made from crates/poolsteps/src/directory.rt by tools/erase/erase.py: change that file, not this one.
 
-//! The words of places.
+//! The words of places, with their objects.
 
-use crate::shim::{release, reserve, Box, Global, Slots, Vec};
+use crate::shim::{release, reserve, Global, Slots, Vec};
 
-use crate::erased::poolsteps::cells::{Base, Vacancy};
-use crate::erased::poolsteps::memory::{of_boxes, Bare, HeldLease, Run};
-use std::ptr::null_mut;
+use crate::erased::poolsteps::cells::{Base, Whole};
+use crate::erased::poolsteps::memory::{HeldLease, Run};
+use crate::erased::slotcell::Clear;
 
-/// The words of a directory, a place each, that are not taken out of it, and the right to its memory. Whoever reads an
-/// object needs its `Base` alone.
+/// The words of a directory, a place each, that are not taken out of it, with their objects, and the right to its memory.
+/// Whoever reads an object needs its `Base` alone.
 pub struct Directory<T> {
-    run: Run<Bare<T>>,
-    held_lease: HeldLease<Bare<T>, Global>,
+    run: Run<T>,
+    held_lease: HeldLease<T, Global>,
     count: usize,
 }
 
@@ -22,17 +22,20 @@ fn write_all<T>(row: &mut Slots<T>, mut words: Vec<T>) {
     }
 }
 
+fn drop_all<T>(row: &mut Slots<T>, count: usize) {
+    for index in 0..count {
+        drop(row.take(index));
+    }
+}
+
 // Where it is dropped it is forgotten.
 const _: () = assert!(!std::mem::needs_drop::<Directory<()>>());
 
-impl<T> Directory<T> {
-    /// A directory of so many places, all vacant. None where memory was refused.
+impl<T: Clear> Directory<T> {
+    /// A directory of so many places, each with an empty object. None where memory was refused.
     pub fn new(alloc: Global, count: usize) -> Option<Directory<T>> {
         let mut words = Vec::with_capacity(alloc, count).ok()?;
-        words.push_alike(count, || Bare {
-            at: null_mut(),
-            alloc,
-        });
+        words.push_fresh(count, T::ZEROS, || T::fresh(alloc));
         // SAFETY: what is asked here is proved in the source.
         let (mut row, lease) = (unsafe { reserve(&alloc, words) }).ok()?;
         Some(Directory {
@@ -41,10 +44,12 @@ impl<T> Directory<T> {
             count,
         })
     }
+}
 
+impl<T> Directory<T> {
     /// Where its words begin.
-    pub fn base(&mut self) -> Base<Box<T, Global>> {
-        of_boxes(self.run.base())
+    pub fn base(&mut self) -> Base<T> {
+        self.run.base()
     }
 
     /// How many places it has.
@@ -53,25 +58,27 @@ impl<T> Directory<T> {
     }
 
     /// Takes the place of the lowest number out.
-    pub fn next(&mut self) -> Vacancy<T> {
-        Vacancy {
+    pub fn next(&mut self) -> Whole<T> {
+        Whole {
             word: self.run.cut(),
         }
     }
 
     /// Puts the place below the lowest number back.
-    pub fn put_back(&mut self, vacancy: Vacancy<T>) {
-        let Vacancy { word } = vacancy;
+    pub fn put_back(&mut self, whole: Whole<T>) {
+        let Whole { word } = whole;
         self.run.merge(word);
     }
 
-    /// Frees a directory whose places are all back in it.
+    /// Frees a directory whose places are all back in it, and drops their objects.
     pub fn close(self, alloc: Global) {
         let Directory {
             run,
             held_lease,
             count,
         } = self;
-        release(&alloc, run.into_slots(count), held_lease.into_lease());
+        let mut row = run.into_slots(count);
+        drop_all(&mut row, count);
+        release(&alloc, row, held_lease.into_lease());
     }
 }

@@ -4,15 +4,23 @@
 
 use crate::shim::{Global, Vec};
 
-use crate::erased::poolsteps::cells::Vacancy;
 use crate::erased::poolsteps::directory::Directory;
 use crate::erased::poolsteps::objects::Objects;
+use crate::erased::slotcell::Clear;
 
-/// Frees a directory, where the rights to all its places are with these lanes, which stand by the order of their places;
-/// each object that waits is dropped. Where a right is missing, what is left isn't freed.
-pub fn close_directory<T>(alloc: Global, mut directory: Directory<T>, mut lanes: Vec<Objects<T>>) {
-    for lane in 0..lanes.len() {
-        bring_home(alloc, &mut lanes, lane);
+/// Frees a directory, whose places are all with these lanes, which stand by the order of their places, and drops the
+/// objects. Where a place is missing, since a filling of it was forgotten, the objects of the others are dropped, and the
+/// memory isn't freed.
+pub fn close_directory<T: Clear>(
+    alloc: Global,
+    mut directory: Directory<T>,
+    mut lanes: Vec<Objects<T>>,
+) {
+    if !lanes.iter().all(|lane| lane.has_all()) {
+        for lane in lanes {
+            lane.let_go(alloc);
+        }
+        return;
     }
     let mut end = directory.count();
     while let Some(last) = lanes.pop() {
@@ -23,25 +31,5 @@ pub fn close_directory<T>(alloc: Global, mut directory: Directory<T>, mut lanes:
     }
     if end == 0 {
         directory.close(alloc);
-    }
-}
-
-// Each right that a lane keeps to a place of another goes to that one.
-fn bring_home<T>(alloc: Global, lanes: &mut Vec<Objects<T>>, lane: usize) {
-    for _ in 0..lanes[lane].kept_count() {
-        if let Some((start, vacancy)) = lanes[lane].give_up(alloc) {
-            give(lanes, start, vacancy);
-        }
-    }
-}
-
-// The right to a place goes to the lane whose own it is.
-fn give<T>(lanes: &mut Vec<Objects<T>>, start: usize, vacancy: Vacancy<T>) {
-    let mut right = vacancy;
-    for lane in 0..lanes.len() {
-        let Some(back) = lanes[lane].accept(start, right) else {
-            return;
-        };
-        right = back;
     }
 }

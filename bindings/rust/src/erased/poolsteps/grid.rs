@@ -2,7 +2,7 @@
 
 //! The table of a pool, the hands of its lanes, and where the words of a place stand.
 
-use crate::shim::{Box, Global, Seat, Table, Vec};
+use crate::shim::{Global, Seat, Table, Vec};
 
 use crate::erased::keybits::Shape;
 use crate::erased::poolsteps::cells::{Address, Base, Slot};
@@ -35,7 +35,7 @@ pub struct Grid<T: Clear> {
     /// The pool's shape.
     pub shape: Shape,
     /// Where the pool's objects stand: each in the word of its place.
-    pub objects: Base<Box<T, Global>>,
+    pub objects: Base<T>,
     /// How many slots stand between those of a place for two lanes that follow each other.
     pub(crate) row: usize,
     /// Where the link words begin.

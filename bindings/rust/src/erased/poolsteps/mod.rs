@@ -11,7 +11,6 @@ mod directory;
 mod directory_end;
 mod find;
 mod grid;
-mod kept;
 mod layout;
 mod memory;
 mod moves;
@@ -23,8 +22,8 @@ mod rows;
 mod steps;
 mod threads;
 
-pub use cells::{Address, Base, Rest, Share, Slot, Tally, Vacancy, Whole};
-pub use closing::drop_cell;
+pub use cells::{Address, Base, Rest, Share, Slot, Tally, Whole};
+pub use closing::out_cell;
 pub use directory::Directory;
 pub use directory_end::close_directory;
 pub use grid::{Board, Grid, Hand, Spot};

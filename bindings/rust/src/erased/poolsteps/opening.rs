@@ -2,7 +2,7 @@
 
 //! How a pool's table is made, and its places are found.
 
-use crate::shim::{Box, Global, Table, Vec};
+use crate::shim::{Global, Table, Vec};
 
 use crate::erased::keybits::Shape;
 use crate::erased::poolsteps::cells::Base;
@@ -14,11 +14,7 @@ use crate::erased::slotcell::Clear;
 
 impl<T: Clear> Grid<T> {
     /// The table of a pool of this shape, and the hand of each lane, by rising number. None where memory was refused.
-    pub fn new(
-        alloc: Global,
-        shape: &Shape,
-        objects: Base<Box<T, Global>>,
-    ) -> Option<(Grid<T>, Vec<Hand<T>>)> {
+    pub fn new(alloc: Global, shape: &Shape, objects: Base<T>) -> Option<(Grid<T>, Vec<Hand<T>>)> {
         let mut hands = Vec::with_capacity(alloc, shape.lanes as usize).ok()?;
         let (grid, mut seat) = Grid::undealt(alloc, *shape, objects)?;
         for _ in 0..shape.lanes {
@@ -28,11 +24,7 @@ impl<T: Clear> Grid<T> {
     }
 
     /// The table of a pool of this shape, and the seat of all its lanes. None where memory was refused.
-    fn undealt(
-        alloc: Global,
-        shape: Shape,
-        objects: Base<Box<T, Global>>,
-    ) -> Option<(Grid<T>, Hand<T>)> {
+    fn undealt(alloc: Global, shape: Shape, objects: Base<T>) -> Option<(Grid<T>, Hand<T>)> {
         let pages = page_rows(alloc, &shape)?;
         let words = first_words(alloc, &shape)?;
         let slots = first_slots(alloc, &shape)?;

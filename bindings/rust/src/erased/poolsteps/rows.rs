@@ -2,9 +2,9 @@
 
 //! The row of a lane: of each word of its own places in a directory, what the lane has of the place.
 
-use crate::shim::{no_bytes, Box, Gapless, Global, Vec};
+use crate::shim::{no_bytes, Gapless, Global, Vec};
 
-use crate::erased::poolsteps::cells::{Base, Vacancy, Whole};
+use crate::erased::poolsteps::cells::{Base, Whole};
 use crate::erased::poolsteps::directory::Directory;
 use std::mem;
 
@@ -12,26 +12,34 @@ use std::mem;
 pub(crate) enum Own<T> {
     // Nothing.
     Away,
-    // The right to it, and no object.
-    Vacant(Vacancy<T>),
-    // The right to it, which is kept until the close.
-    Retired(Vacancy<T>),
-    // The right to it, with the object that waits there.
+    // The place, which wasn't used yet.
+    Unused(Whole<T>),
+    // The place, which came back for the close.
+    Back(Whole<T>),
+    // The place, whose object waits there.
     Whole(Whole<T>),
 }
 
 // SAFETY: its fields fill it, at which the compiler looks.
 unsafe impl<T> Gapless for Own<T> {
     const FIELDS: usize =
-        1 + no_bytes::<Vacancy<T>>() + no_bytes::<Vacancy<T>>() + no_bytes::<Whole<T>>();
+        1 + no_bytes::<Whole<T>>() + no_bytes::<Whole<T>>() + no_bytes::<Whole<T>>();
 }
 
 impl<T> Own<T> {
+    // Whether it is away.
+    pub(crate) fn is_away(&self) -> bool {
+        match self {
+            Own::Away => true,
+            Own::Unused(_) | Own::Back(_) | Own::Whole(_) => false,
+        }
+    }
+
     // Whether the right is here, and in use.
     pub(crate) fn is_here(&self) -> bool {
         match self {
-            Own::Away | Own::Retired(_) => false,
-            Own::Vacant(_) | Own::Whole(_) => true,
+            Own::Away | Own::Back(_) => false,
+            Own::Unused(_) | Own::Whole(_) => true,
         }
     }
 }
@@ -46,62 +54,41 @@ pub(crate) fn none_own<T>(alloc: Global, count: usize) -> Option<Vec<Own<T>>> {
     Some(row)
 }
 
-// Takes the rights to the next places out of the directory, into the beginning of a row.
+// Takes the next places out of the directory, into the beginning of a row.
 pub(crate) fn endow_row<T>(row: &mut Vec<Own<T>>, directory: &mut Directory<T>, count: usize) {
     for index in 0..count {
-        row[index] = Own::Vacant(directory.next());
+        row[index] = Own::Unused(directory.next());
     }
 }
 
-// Takes the right to a place out of the row, where it has this index. None where it is away. An object that waits there is
-// dropped.
+// Takes a place out of the row, where it has this index. None where it is away.
 #[inline]
 pub(crate) fn claim<T>(
     row: &mut Vec<Own<T>>,
-    directory: &Base<Box<T, Global>>,
+    directory: &Base<T>,
     start: usize,
     index: usize,
-) -> Option<Vacancy<T>> {
-    // (Where the directory is, is read behind the write, for who reads it once more.)
+) -> Option<Whole<T>> {
     let own = mem::replace(&mut row[index], Own::Away);
     right_in(own, *directory, start)
 }
 
-// Takes the object that waits at a place out of it, which then is vacant. None where no object waits, which changes nothing.
+// Takes a place whose object waits there out of what a lane has of it. None where no object waits, which changes nothing.
 #[inline]
-pub(crate) fn part_with<T>(
-    own: Own<T>,
-    at: (Base<Box<T, Global>>, usize),
-) -> (Own<T>, Option<Box<T, Global>>) {
-    let (directory, start) = at;
+pub(crate) fn part_with<T>(own: Own<T>, at: (Base<T>, usize)) -> (Own<T>, Option<Whole<T>>) {
+    let _ = at;
     match own {
-        Own::Whole(whole) => {
-            let (vacancy, object) = whole.take(directory, start);
-            (Own::Vacant(vacancy), Some(object))
-        }
+        Own::Whole(whole) => (Own::Away, Some(whole)),
         other => (other, None),
     }
 }
 
-// The right that a lane has to a place. None where it is away. An object that waits there is dropped.
+// The place that a lane has. None where it is away.
 #[inline]
-pub(crate) fn right_in<T>(
-    own: Own<T>,
-    directory: Base<Box<T, Global>>,
-    start: usize,
-) -> Option<Vacancy<T>> {
+pub(crate) fn right_in<T>(own: Own<T>, directory: Base<T>, start: usize) -> Option<Whole<T>> {
+    let _ = (directory, start);
     match own {
         Own::Away => None,
-        Own::Vacant(vacancy) => Some(vacancy),
-        Own::Retired(vacancy) => Some(vacancy),
-        Own::Whole(whole) => Some(emptied(whole, directory, start)),
+        Own::Unused(whole) | Own::Back(whole) | Own::Whole(whole) => Some(whole),
     }
-}
-
-// The right to a place, whose object is dropped. Away from the calls' own paths, as none finds an object here.
-#[cold]
-#[inline(never)]
-fn emptied<T>(whole: Whole<T>, directory: Base<Box<T, Global>>, start: usize) -> Vacancy<T> {
-    let (vacancy, _object) = whole.take(directory, start);
-    vacancy
 }

@@ -2,12 +2,12 @@
 
 //! What the places of a pool are when it is closed.
 
-use crate::shim::{Box, Global, Slots, Vec};
+use crate::shim::{Global, Slots, Vec};
 
 use crate::erased::freelists::LocalFree;
 use crate::erased::keybits::{link_to, linked_place, Life, Place, Shape, State};
 use crate::erased::poolsteps::{
-    drop_cell, life_word, link_word, slot_start, stack_word, Base, Objects, Slot,
+    life_word, link_word, out_cell, slot_start, stack_word, Base, Objects, Slot,
 };
 use crate::erased::shardpool::pool::LaneState;
 
@@ -66,10 +66,10 @@ impl Census {
     }
 }
 
-/// The census of a pool, by its last words and what its lanes keep. The cells in the slots are dropped, with their
-/// objects, and the rights to their places are with the lanes, whose rights are left.
+/// The census of a pool, by its last words and what its lanes keep. The cells in the slots are then with the lanes' own,
+/// which are left.
 pub(crate) fn take_census<T>(
-    directory: Base<Box<T, Global>>,
+    directory: Base<T>,
     shape: &Shape,
     states: Vec<LaneState<T>>,
     words: &mut Slots<u64>,
@@ -80,7 +80,7 @@ pub(crate) fn take_census<T>(
     for mut state in states {
         let opened = state.pages.opened();
         mark_returned(shape, state.number, &state.free, words);
-        drop_cells(
+        out_cells(
             directory,
             shape,
             state.number,
@@ -156,10 +156,11 @@ fn places_of_pages(shape: &Shape, pages: u32) -> u32 {
     places
 }
 
-/// The cells that the slots of a shard's places have are dropped, with their objects: of the places whose lifecycle
-/// word is 0, and of published places. The rights to these places are then the lane's. Places of unopened pages have none.
-fn drop_cells<T>(
-    directory: Base<Box<T, Global>>,
+/// The cells that the slots of a shard's places have are taken out: of the places whose lifecycle word is 0, of published
+/// places, and of retired ones. They are then with the lane's objects. Places of unopened
+/// pages have none.
+fn out_cells<T>(
+    directory: Base<T>,
     shape: &Shape,
     shard: u32,
     opened: u32,
@@ -173,8 +174,8 @@ fn drop_cells<T>(
         let position = shard as usize * places + index;
         let place = shape.place_at(position);
         let word = *words.get(life_word(shape, place, position));
-        if let Some(vacancy) = drop_cell(directory, shape, place, position, word, slots) {
-            objects.retire(slot_start(shape, place, position), vacancy);
+        if let Some(whole) = out_cell(directory, shape, place, position, word, slots) {
+            objects.bring_back(slot_start(shape, place, position), whole);
         }
     }
 }

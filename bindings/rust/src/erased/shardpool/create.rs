@@ -3,10 +3,10 @@
 //! How a lane gets a place to fill: from its own list, from its taken chain, from the places that were returned to it,
 //! or from its next page.
 
-use crate::shim::{impossible, Box, Global, Snapshot, Vec};
+use crate::shim::{impossible, Global, Snapshot, Vec};
 
 use crate::erased::keybits::{Key, Place};
-use crate::erased::poolsteps::{Grid, Hand, Spot, Whole};
+use crate::erased::poolsteps::{Base, Grid, Hand, Spot, Whole};
 use crate::erased::shardpool::cell_moves::take_resting;
 use crate::erased::shardpool::pool::{Lane, Pool};
 use crate::erased::shardpool::stores::{follow_on, hang, open_next, take_own};
@@ -14,13 +14,16 @@ use crate::erased::slotcell::Clear;
 use std::error::Error;
 use std::fmt;
 
-/// A place that is to be filled, with its object. It must be spent, by a publish, a downgrade or `forget`.
+/// A place that is to be filled, with its object. It must be spent, by a publish, a downgrade, `Lane::leave` or `forget`.
 pub struct Filling<T> {
     pub(crate) key: u64,
     /// Where the key's place stands.
     pub(crate) start: u32,
-    pub(crate) object: Box<T, Global>,
+    /// Where the words of the pool's places begin.
+    pub(crate) directory: Base<T>,
+    pub(crate) whole: Whole<T>,
     pub(crate) of: Snapshot<Hand<T>>,
+    pub(crate) alloc: Global,
 }
 
 impl<T> Filling<T> {
@@ -31,46 +34,63 @@ impl<T> Filling<T> {
 
     /// The object.
     pub fn value(&self) -> &T {
-        &self.object
+        self.whole.get(self.directory, self.start as usize)
     }
 
     /// The object, to be written.
     pub fn value_mut(&mut self) -> &mut T {
-        &mut self.object
+        self.whole.get_mut(self.directory, self.start as usize)
     }
 
-    /// The filling of a key, whose place stands here, with this object, by a lane with this hand.
-    pub(crate) fn of(hand: &Hand<T>, key: u64, start: u32, object: Box<T, Global>) -> Filling<T> {
+    /// The filling of a key, whose place stands here in this directory, with this cell, by a lane with this hand.
+    pub(crate) fn of(
+        hand: &Hand<T>,
+        key: u64,
+        start: u32,
+        directory: Base<T>,
+        whole: Whole<T>,
+        alloc: Global,
+    ) -> Filling<T> {
         Filling {
             key,
             start,
-            object,
+            directory,
+            whole,
             of: Snapshot::of(hand),
+            alloc,
         }
     }
 
-    /// The token's key, where its place stands, and the object.
-    pub(crate) fn spend(self) -> (u64, u32, Box<T, Global>) {
+    /// The token's key, where its place stands, and the cell.
+    pub(crate) fn spend(self) -> (u64, u32, Whole<T>) {
         let Filling {
             key,
             start,
-            object,
+            directory: _,
+            whole,
             of,
+            alloc: _,
         } = self;
         drop(of);
-        (key, start, object)
+        (key, start, whole)
     }
+}
 
+impl<T: Clear> Filling<T> {
     /// The token ends, and the pool isn't told: the place stays filling until the pool is closed. The object is
-    /// dropped.
+    /// dropped. A pool with such a place doesn't free the memory of its places when it is closed, as it does after
+    /// `Lane::leave`.
     pub fn forget(self) {
         let Filling {
             key: _,
-            start: _,
-            object,
+            start,
+            directory,
+            mut whole,
             of,
+            alloc,
         } = self;
-        drop(object);
+        *whole.get_mut(directory, start as usize) = T::fresh(alloc);
+        drop(whole);
         drop(of);
     }
 }
@@ -116,8 +136,8 @@ impl<T: Clear> Pool<T> {
     pub fn create(&self, lane: &mut Lane<T>) -> Result<Filling<T>, CreateFault> {
         // A proof knows the invariant of a lane once a field of it is seen.
         let _ = &lane.state;
-        if let Some((spot, object)) = pop(lane) {
-            return Ok(self.fill(lane, spot, object));
+        if let Some((spot, listed)) = pop(lane) {
+            return Ok(self.fill(lane, spot, listed));
         }
         self.create_apart(lane)
     }
@@ -128,12 +148,12 @@ impl<T: Clear> Pool<T> {
         // A proof knows the invariant of a lane once a field of it is seen.
         let _ = &lane.state;
         self.take_returned(lane);
-        if let Some((spot, object)) = self.follow(lane) {
-            return Ok(self.fill(lane, spot, object));
+        if let Some((spot, whole)) = self.follow(lane) {
+            return Ok(self.fill(lane, spot, whole));
         }
         open_page(lane)?;
         match pop(lane) {
-            Some((spot, object)) => Ok(self.fill(lane, spot, object)),
+            Some((spot, whole)) => Ok(self.fill(lane, spot, whole)),
             None => impossible!(),
         }
     }
@@ -149,33 +169,40 @@ impl<T: Clear> Pool<T> {
         }
     }
 
-    /// Follows the taken chain: its first place, with its object. None where no taken place is still to be followed.
-    fn follow(&self, lane: &mut Lane<T>) -> Option<(Spot, Box<T, Global>)> {
+    /// Follows the taken chain: its first place, with its cell. None where no taken place is still to be followed.
+    fn follow(&self, lane: &mut Lane<T>) -> Option<(Spot, Whole<T>)> {
         let first = lane.state.free.chain()?;
         let spot = self.grid.spot(first.number());
         let number = lane.state.number;
         let (link, whole) = follow(&self.grid, &mut lane.hand, spot, number);
-        let object = follow_on(&mut lane.state, spot, link, whole);
-        Some((spot, object))
+        follow_on(&mut lane.state, link);
+        Some((spot, whole))
     }
 
     /// A look at the generation of a place of the lane that nobody has: a filling of it.
     #[inline(always)]
-    fn fill(&self, lane: &mut Lane<T>, spot: Spot, object: Box<T, Global>) -> Filling<T> {
+    fn fill(&self, lane: &mut Lane<T>, spot: Spot, whole: Whole<T>) -> Filling<T> {
         let key = next_key(&self.grid, &mut lane.hand, spot);
-        Filling::of(&lane.hand, key, spot.start, object)
+        Filling::of(
+            &lane.hand,
+            key,
+            spot.start,
+            self.grid.objects,
+            whole,
+            self.alloc,
+        )
     }
 }
 
-/// Where the first place of the lane's own list stands, and its object. None where the list is empty.
+/// Where the first place of the lane's own list stands, and its cell. None where the list is empty.
 #[inline(always)]
-fn pop<T: Clear>(lane: &mut Lane<T>) -> Option<(Spot, Box<T, Global>)> {
-    let (place, start, object) = take_own(&mut lane.state)?;
+fn pop<T: Clear>(lane: &mut Lane<T>) -> Option<(Spot, Whole<T>)> {
+    let (place, start, whole) = take_own(&mut lane.state)?;
     let spot = Spot {
         place: place.number(),
         start,
     };
-    Some((spot, object))
+    Some((spot, whole))
 }
 
 /// Opens the lane's next page: an object for each of its places, which are then the lane's own list.
@@ -193,12 +220,9 @@ fn open_page<T: Clear>(lane: &mut Lane<T>) -> Result<(), CreateFault> {
 }
 
 /// So many empty objects. None where memory was refused.
-fn fresh_objects<T: Clear>(alloc: Global, count: u32) -> Option<Vec<Box<T, Global>>> {
+fn fresh_objects<T: Clear>(alloc: Global, count: u32) -> Option<Vec<T>> {
     let mut objects = Vec::with_capacity(alloc, count as usize).ok()?;
-    for _ in 0..count {
-        let object = Box::new(alloc, T::fresh(alloc)).ok()?;
-        objects.push_reserved(object);
-    }
+    objects.push_fresh(count, T::ZEROS, || T::fresh(alloc));
     Some(objects)
 }
 

@@ -3,6 +3,7 @@
 //! Lanes: each owns a shard of a pool.
 
 use crate::erased::keybits::place_of;
+use crate::erased::shardpool::create::Filling;
 use crate::erased::shardpool::get::Ref;
 use crate::erased::shardpool::pool::Lane;
 use crate::erased::slotcell::Clear;
@@ -61,5 +62,16 @@ impl<T: Clear> Lane<T> {
     pub fn places_law(&self) {
         // A proof knows that the lane's free places are sound once their number is asked.
         let _ = self.state.free.len();
+    }
+}
+
+impl<T: Clear> Lane<T> {
+    /// A filling ends unpublished, and the pool isn't told: its place stays filling until the pool is closed, as after
+    /// `Filling::forget`. The object is dropped.
+    pub fn leave(&mut self, filling: Filling<T>) {
+        let (_, start, mut whole) = filling.spend();
+        let at = start as usize;
+        *whole.get_mut(self.state.objects.base(), at) = T::fresh(self.state.alloc);
+        self.state.objects.bring_back(at, whole);
     }
 }

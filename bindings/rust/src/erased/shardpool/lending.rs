@@ -2,7 +2,7 @@
 
 //! Lanes that lend. What such a lane has a reference to is read without the lane, by any thread, until it is given back.
 
-use crate::shim::{Box, Global};
+use crate::shim::Global;
 
 use crate::erased::keybits::{is_hit, place_of};
 use crate::erased::poolsteps::{Base, Hand, Purpose, Slot, Spot};
@@ -21,7 +21,7 @@ pub struct Loan<T> {
     /// Where the key's place stands.
     start: u32,
     /// Where the objects of the pool stand.
-    directory: Base<Box<T, Global>>,
+    directory: Base<T>,
     share: Slot<T>,
 }
 

@@ -2,7 +2,7 @@
 
 //! How a pool is opened.
 
-use crate::shim::{Box, Global, Vec};
+use crate::shim::{Global, Vec};
 
 use crate::erased::freelists::{LocalFree, Pages};
 use crate::erased::keybits::Shape;
@@ -70,7 +70,7 @@ fn try_open<T: Clear>(alloc: Global, shape: Shape) -> Option<(Pool<T>, Vec<Lane<
 fn parts_of<T: Clear>(
     alloc: Global,
     shape: &Shape,
-    directory: Base<Box<T, Global>>,
+    directory: Base<T>,
 ) -> Option<(Grid<T>, Vec<Unendowed<T>>)> {
     let mut parts = Vec::with_capacity(alloc, shape.lanes as usize).ok()?;
     let (grid, hands) = Grid::new(alloc, shape, directory)?;
@@ -113,7 +113,7 @@ fn part_of<T: Clear>(
     shape: &Shape,
     number: u32,
     hand: Hand<T>,
-    directory: Base<Box<T, Global>>,
+    directory: Base<T>,
 ) -> Option<Unendowed<T>> {
     let row = HandRow::new(alloc)?;
     let state = first_state(alloc, shape, number, directory)?;
@@ -125,7 +125,7 @@ fn first_state<T: Clear>(
     alloc: Global,
     shape: &Shape,
     number: u32,
-    directory: Base<Box<T, Global>>,
+    directory: Base<T>,
 ) -> Option<LaneState<T>> {
     let shard = number as u8;
     // (What is dropped with least ado comes first: each way out behind it drops it.)
@@ -138,7 +138,6 @@ fn first_state<T: Clear>(
         directory,
         shape.shard_places() as usize,
         shard_start(shape, number),
-        slot_row(shape),
     )?;
     Some(LaneState {
         shape: *shape,

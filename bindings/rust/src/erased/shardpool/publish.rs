@@ -8,7 +8,6 @@ use crate::erased::shardpool::cell_moves::{spread_cell, spread_others};
 use crate::erased::shardpool::create::Filling;
 use crate::erased::shardpool::get::{add_first_reference, Ref};
 use crate::erased::shardpool::pool::{Lane, Pool};
-use crate::erased::shardpool::stores::give_out;
 use crate::erased::slotcell::Clear;
 
 impl<T: Clear> Pool<T> {
@@ -21,20 +20,18 @@ impl<T: Clear> Pool<T> {
             start,
         };
         let number = lane.state.number;
-        let whole = give_out(&mut lane.state, spot, written);
-        publish(&self.grid, &mut lane.hand, spot, number, key, whole);
+        publish(&self.grid, &mut lane.hand, spot, number, key, written);
         key
     }
 
     /// Publishes a filling as `publish` does, and answers a reference to its key.
     pub fn downgrade(&self, lane: &mut Lane<T>, filling: Filling<T>) -> Ref<T> {
-        let (key, start, object) = filling.spend();
+        let (key, start, whole) = filling.spend();
         let spot = Spot {
             place: place_of(key),
             start,
         };
         let number = lane.state.number;
-        let whole = give_out(&mut lane.state, spot, object);
         let share = downgrade(&self.grid, &mut lane.hand, spot, number, key, whole);
         add_first_reference(&mut lane.state, spot.start as usize, key, share);
         Ref::to(key, start, &lane.state.places)

@@ -2,15 +2,16 @@
 
 //! What follows the LEAVE of a place: its claim, and what becomes of it.
 
-use crate::shim::{Box, Global, Vec};
+use crate::shim::{Global, Vec};
 
 use crate::erased::keybits::{claimable, link_to, owes_claim, place_of, shard_of, Life};
-use crate::erased::poolsteps::{Base, Grid, Hand, Spot, Vacancy, Whole};
+use crate::erased::poolsteps::{Grid, Hand, Spot, Whole};
 use crate::erased::shardpool::cell_moves::{rest_cell, take_cell};
 use crate::erased::shardpool::emptier::Emptier;
 use crate::erased::shardpool::pool::LaneState;
 use crate::erased::shardpool::stores::keep;
 use crate::erased::slotcell::Clear;
+use std::mem;
 
 /// What follows the LEAVE of a key's place that found this word, and what the lane keeps of it: nothing, unless the
 /// call is the last to leave a marked place. Inlined, for what is seldom done stands apart.
@@ -56,8 +57,8 @@ pub(crate) enum Reclaimed<T> {
     Own(Whole<T>),
     /// It is of another shard, and was returned there.
     Returned,
-    /// Its last generation was over: it is retired, its object was handed over, and it is vacant.
-    Retired(Vacancy<T>),
+    /// Its last generation was over: it is retired, its object was handed over, and an empty one is at rest there.
+    Retired,
 }
 
 /// The place at which a call acts, and the lane that makes it.
@@ -69,6 +70,7 @@ pub(crate) struct At<'a> {
     pub(crate) lane: u32,
     /// For each shard the word that the lane last pushed there; 0 where it pushed none.
     pub(crate) tops: &'a Vec<u64>,
+    pub(crate) alloc: Global,
 }
 
 impl At<'_> {
@@ -87,6 +89,7 @@ impl<T> LaneState<T> {
             spot,
             lane: self.number,
             tops: &self.last_pushed,
+            alloc: self.alloc,
         }
     }
 }
@@ -129,12 +132,12 @@ pub(crate) fn reclaim_place<T: Clear, E: Emptier<T>>(
     generation: u32,
     emptier: &mut E,
 ) -> Reclaimed<T> {
-    let start = at.spot.start as usize;
     let mut whole = take_cell(grid, hand, at.spot, at.lane);
     if generation == grid.shape.last_generation {
-        return Reclaimed::Retired(vacate(grid.objects, start, whole, emptier));
+        retire(grid, hand, at, whole, emptier);
+        return Reclaimed::Retired;
     }
-    emptier.empty(whole.get_mut(grid.objects, start));
+    emptier.empty(whole.get_mut(grid.objects, at.spot.start as usize));
     if shard_of(at.spot.place) == at.lane {
         return Reclaimed::Own(whole);
     }
@@ -143,18 +146,20 @@ pub(crate) fn reclaim_place<T: Clear, E: Emptier<T>>(
     Reclaimed::Returned
 }
 
-/// Hands over the object of a place that gets none any more. Apart, for each place comes here once at most.
+/// Hands over the object of a place that gets none any more: an empty one then rests there until the pool is closed.
+/// Apart, for each place comes here once at most.
 #[cold]
 #[inline(never)]
-fn vacate<T: Clear, E: Emptier<T>>(
-    objects: Base<Box<T, Global>>,
-    start: usize,
-    whole: Whole<T>,
+fn retire<T: Clear, E: Emptier<T>>(
+    grid: &Grid<T>,
+    hand: &mut Hand<T>,
+    at: At,
+    mut whole: Whole<T>,
     emptier: &mut E,
-) -> Vacancy<T> {
-    let (vacancy, object) = whole.take(objects, start);
-    emptier.retire(Box::into_inner(object));
-    vacancy
+) {
+    let object = whole.get_mut(grid.objects, at.spot.start as usize);
+    emptier.retire(mem::replace(object, T::fresh(at.alloc)));
+    rest_cell(grid, hand, at.spot, at.lane, whole);
 }
 
 /// Returns a place of another shard, which is at rest: LINK and PUSH from the word that the lane last pushed there, and
@@ -184,9 +189,6 @@ pub(crate) fn keep_reclaimed<T>(
         Some(Reclaimed::Returned) => {
             state.last_pushed[shard_of(spot.place) as usize] = link_to(spot.place);
         }
-        Some(Reclaimed::Retired(vacancy)) => {
-            state.objects.retire(spot.start as usize, vacancy);
-        }
-        None => {}
+        Some(Reclaimed::Retired) | None => {}
     }
 }

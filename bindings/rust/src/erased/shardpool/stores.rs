@@ -2,7 +2,7 @@
 
 //! The stores of a lane: the free places of its shard, and their objects.
 
-use crate::shim::{impossible, Box, Global, Vec};
+use crate::shim::{impossible, Vec};
 
 use crate::erased::keybits::{linked_place, Place};
 use crate::erased::poolsteps::{Spot, Whole};
@@ -18,47 +18,29 @@ pub(crate) fn keep<T>(state: &mut LaneState<T>, spot: Spot, whole: Whole<T>) {
 
 /// An empty object of an own place, which never had one, rests with the lane, and the place goes to the end of the
 /// lane's list.
-fn list<T>(state: &mut LaneState<T>, place: u32, object: Box<T, Global>) {
+fn list<T>(state: &mut LaneState<T>, place: u32, object: T) {
     state
         .objects
         .fill(state.places.start(place) as usize, object);
     state.free.push(Place::of_number(place));
 }
 
-/// The first place of the lane's list, where it stands, and its object. None where the list is empty, which changes
+/// The first place of the lane's list, where it stands, and its cell. None where the list is empty, which changes
 /// nothing.
 #[inline(always)]
-pub(crate) fn take_own<T>(state: &mut LaneState<T>) -> Option<(Place, u32, Box<T, Global>)> {
+pub(crate) fn take_own<T>(state: &mut LaneState<T>) -> Option<(Place, u32, Whole<T>)> {
     let place = state.free.pop()?;
     let start = state.places.start(place.number());
     match state.objects.take(start as usize) {
-        Some(object) => Some((place, start, object)),
+        Some(whole) => Some((place, start, whole)),
         None => impossible!(),
     }
 }
 
-/// The taken chain goes on by this link word behind its first place, which stands here. Its object is taken out of it.
+/// The taken chain goes on by this link word behind its first place.
 #[inline]
-pub(crate) fn follow_on<T>(
-    state: &mut LaneState<T>,
-    spot: Spot,
-    link: u64,
-    whole: Whole<T>,
-) -> Box<T, Global> {
+pub(crate) fn follow_on<T>(state: &mut LaneState<T>, link: u64) {
     state.free.follow(link);
-    state.objects.vacate(spot.start as usize, whole)
-}
-
-/// The place of a filling, with this object, leaves the lane: it stands here, and is among the lane's rights.
-#[inline(always)]
-pub(crate) fn give_out<T>(
-    state: &mut LaneState<T>,
-    spot: Spot,
-    object: Box<T, Global>,
-) -> Whole<T> {
-    // A look at the list tells that its places are the lane's.
-    let _ = state.free.len();
-    state.objects.put(spot.start as usize, object)
 }
 
 /// The place that a word leads to becomes the first of the taken chain.
@@ -68,7 +50,7 @@ pub(crate) fn hang<T>(state: &mut LaneState<T>, found: u64) {
 }
 
 /// The next page is opened: its places, each with the object given for it, are the lane's list.
-pub(crate) fn open_next<T: Clear>(state: &mut LaneState<T>, objects: Vec<Box<T, Global>>) {
+pub(crate) fn open_next<T: Clear>(state: &mut LaneState<T>, objects: Vec<T>) {
     let page = state.pages.opened();
     state.pages.open_next();
     for object in objects {

@@ -83,7 +83,7 @@ publish-requires-clause-owns g c = c.in_ok-filling.ensures.owns
 
 pub publish-requires-clause-made : goal.publish-requires-clause-made
 publish-requires-clause-made g c =
-    let made = c.in_ok-filling.ensures.gives.made in record { table = made.table; start = made.start; place = made.place; may = made.may; emptied = made.emptied }
+    let made = c.in_ok-filling.ensures.gives.made in record { table = made.table; directory = made.directory; start = made.start; place = made.place; may = made.may; emptied = made.emptied }
 
 -- ---- a place was given
 

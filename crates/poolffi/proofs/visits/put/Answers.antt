@@ -9,7 +9,7 @@ use Rattle.poolffi.proofs.visits.put.Goals as goal
 
 -- a filling of the lane is one with any object
 made-with : (lane : LaneOf) (filling : FillingOf ByteBuf) (object : ByteBuf) → Made lane filling → Made lane (record filling { object = object })
-made-with lane filling object made = record { table = made.table; start = made.start; place = made.place; may = made.may; emptied = made.emptied }
+made-with lane filling object made = record { table = made.table; directory = made.directory; start = made.start; place = made.place; may = made.may; emptied = made.emptied }
 
 pub finish-requires-clause-made : goal.finish-requires-clause-made
 finish-requires-clause-made c = made-with (lane_of c.begin.new.self) c.in-Ok.filling c.append.new.self c.in-Ok.ensures.creates.gives.made

@@ -1,13 +1,7 @@
--- The lanes are all there until each right is home; then the words from `end` on are back.
+-- The words from `end` on are back.
 use Rattle.std.proofs.Common.{◌≡◌, length}
 use Rattle.std.specs.List.{All}
 use Rattle.poolsteps.proofs.directory_end.close_directory.Given as goal
-
-abbrev pub invariant-loop-lane : goal.invariant-loop-lane
-invariant-loop-lane g l = record {
-  last : l.lane-end ≡ length l.lanes.items;
-  same : l.lanes.items ≡ l.fn.lanes.items;
-}
 
 abbrev pub invariant-loop-last : goal.invariant-loop-last
 invariant-loop-last g l = record {

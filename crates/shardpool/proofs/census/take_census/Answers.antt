@@ -8,12 +8,12 @@ use Rattle.std.proofs.lemmas.Option.{slice_get_within}
 use Rattle.core.specs.Mem.Slots.{slots_items}
 use Rattle.keybits.specs.Places.{number_of}
 use Rattle.poolsteps.specs.Objects.{ObjectsOf}
-use Rattle.poolsteps.specs.Layout.{slot_row}
 use Rattle.shardpool.specs.Marks.{AreFreePlaces, returned_places, Counts}
 use Rattle.shardpool.proofs.count.Marks.{blanks-then}
 use Rattle.shardpool.proofs.count.Rounds.{SlotsSoFar, slots-so-far-none, returned-own, unopened-idle, have-cells, slots-more, SoFar, so-far-none, so-far-counts, so-far-room, chain, threads, state-low, count-low, stand-now, so-far-more, all-gone, is-census, all-drained, all-at}
 use Rattle.shardpool.proofs.at_close.ReturnedShares.{next-state, state-moves}
 use Rattle.shardpool.proofs.census.take_census.Given.{Over}
+use Rattle.shardpool.specs.Stores.{AreOfShard}
 use Rattle.shardpool.proofs.census.take_census.Goals as goal
 use Rattle.shardpool.proofs.census.take_census.Goals.{In-Some}
 
@@ -58,28 +58,28 @@ mark_returned-requires-clause-row g c = let q = c.requires.last in (c.loop-state
 pub mark_returned-requires-clause-free : goal.mark_returned-requires-clause-free
 mark_returned-requires-clause-free g c = stands g (goal.at.mark_returned-requires-clause-free g c).In-Some
 
-pub drop_cells-requires-clause-shard : goal.drop_cells-requires-clause-shard
-drop_cells-requires-clause-shard g c = low g (goal.at.drop_cells-requires-clause-shard g c).In-Some
+pub out_cells-requires-clause-shard : goal.out_cells-requires-clause-shard
+out_cells-requires-clause-shard g c = low g (goal.at.out_cells-requires-clause-shard g c).In-Some
 
-pub drop_cells-requires-clause-words : goal.drop_cells-requires-clause-words
-drop_cells-requires-clause-words g c = let free = stands g (goal.at.drop_cells-requires-clause-words g c).In-Some in (c.mark_returned.ensures free.0 free.1 free.2).row
+pub out_cells-requires-clause-words : goal.out_cells-requires-clause-words
+out_cells-requires-clause-words g c = let free = stands g (goal.at.out_cells-requires-clause-words g c).In-Some in (c.mark_returned.ensures free.0 free.1 free.2).row
 
-pub drop_cells-requires-clause-row : goal.drop_cells-requires-clause-row
-drop_cells-requires-clause-row g c = let q = c.requires.last in (c.loop-state.invariant.slots q.0 q.1 q.2).row
+pub out_cells-requires-clause-row : goal.out_cells-requires-clause-row
+out_cells-requires-clause-row g c = let q = c.requires.last in (c.loop-state.invariant.slots q.0 q.1 q.2).row
 
-pub drop_cells-requires-clause-cells : goal.drop_cells-requires-clause-cells
-drop_cells-requires-clause-cells g c =
+pub out_cells-requires-clause-cells : goal.out_cells-requires-clause-cells
+out_cells-requires-clause-cells g c =
     let z = c.args.shape.now in let q = c.requires.last in let before = c.loop-state in let states = c.args.states.items in let old = c.args.words.now in
-    let here = at g (goal.at.drop_cells-requires-clause-cells g c).In-Some in
+    let here = at g (goal.at.out_cells-requires-clause-cells g c).In-Some in
     let so_far = before.invariant.so_far q.0 q.1 q.2 in
     have-cells z c.requires.shape q.0 q.1 states old c.requires.words q.2 (length before.yielded) c.in-Some.state here before.words before.census so_far c.mark_returned.new.words
     (returned-own z c.requires.shape q.0 q.1 states old c.requires.words q.2 (length before.yielded) c.in-Some.state here before.words before.census so_far c.mark_returned.new.words
     c.mark_returned.ensures) q.3 (before.invariant.slots q.0 q.1 q.2)
 
-pub drop_cells-requires-clause-idle : goal.drop_cells-requires-clause-idle
-drop_cells-requires-clause-idle g c = λ place inside of_shard unopened.
+pub out_cells-requires-clause-idle : goal.out_cells-requires-clause-idle
+out_cells-requires-clause-idle g c = λ place inside of_shard unopened.
     let z = c.args.shape.now in let q = c.requires.last in let before = c.loop-state in let states = c.args.states.items in let old = c.args.words.now in
-    let here = at g (goal.at.drop_cells-requires-clause-idle g c).In-Some in
+    let here = at g (goal.at.out_cells-requires-clause-idle g c).In-Some in
     let so_far = before.invariant.so_far q.0 q.1 q.2 in
     let same = c.opened-opened.ensures.opened in
     unopened-idle z c.requires.shape q.0 q.1 states old c.requires.words q.2 (length before.yielded) c.in-Some.state here before.words before.census so_far c.mark_returned.new.words
@@ -87,12 +87,12 @@ drop_cells-requires-clause-idle g c = λ place inside of_shard unopened.
     c.mark_returned.ensures) place inside of_shard (omega (arith, unopened, same))
 
 -- its rights
-rights : (g : Over) (c : In-Some g) → (c.in-Some.state.objects.directory ≡ c.args.directory.ptr) × (c.in-Some.state.objects.wide ≡ slot_row c.args.shape.now)
-rights g c = all-at (λ state. (state.objects.directory ≡ c.args.directory.ptr) × (state.objects.wide ≡ slot_row c.args.shape.now)) c.args.states.items
+rights : (g : Over) (c : In-Some g) → (c.in-Some.state.objects.directory ≡ c.args.directory.ptr) × AreOfShard c.args.shape.now c.in-Some.state.number c.in-Some.state.objects
+rights g c = all-at (λ state. (state.objects.directory ≡ c.args.directory.ptr) × AreOfShard c.args.shape.now state.number state.objects) c.args.states.items
     (length c.loop-state.yielded) c.in-Some.state c.requires.objects (at g c)
 
-pub drop_cells-requires-clause-objects : goal.drop_cells-requires-clause-objects
-drop_cells-requires-clause-objects g c = rights g (goal.at.drop_cells-requires-clause-objects g c).In-Some
+pub out_cells-requires-clause-objects : goal.out_cells-requires-clause-objects
+out_cells-requires-clause-objects g c = rights g (goal.at.out_cells-requires-clause-objects g c).In-Some
 
 pub push_reserved-requires : goal.push_reserved-requires
 push_reserved-requires g c =
@@ -136,16 +136,16 @@ loop-state-preserved g c =
       slots = λ history lanes last.
           let here = at g (goal.at.loop-state-preserved g c).In-Some in
           let so_far = before.invariant.so_far history lanes last in
-          subst (λ (n : ℕ). SlotsSoFar z history lanes n c.args.slots.now c.drop_cells.new.slots) (sym (length_push before.yielded c.in-Some.state))
+          subst (λ (n : ℕ). SlotsSoFar z history lanes n c.args.slots.now c.out_cells.new.slots) (sym (length_push before.yielded c.in-Some.state))
           (slots-more z c.requires.shape history lanes states old c.requires.words last (length before.yielded) c.in-Some.state here before.words before.census so_far
           c.mark_returned.new.words
           (returned-own z c.requires.shape history lanes states old c.requires.words last (length before.yielded) c.in-Some.state here before.words before.census so_far
-          c.mark_returned.new.words c.mark_returned.ensures) (before.invariant.slots history lanes last) c.drop_cells.new.slots c.drop_cells.ensures.drains);
+          c.mark_returned.new.words c.mark_returned.ensures) (before.invariant.slots history lanes last) c.out_cells.new.slots c.out_cells.ensures.drains);
       states = state-moves states before.yielded (into_iter_items before.state-iterator) (into_iter_items c.next.new.self) c.in-Some.state before.invariant.states c.in-Some.ensures.steps.0;
       rights =
           let P : ObjectsOf g.row.T.Denot → Type 0 = λ objects. objects.directory ≡ c.args.directory.ptr in
           let of : P c.rights_of.result
-          = (λ i. (c.rights_of.ensures i).directory) ∙ ((λ i. (c.drop_cells.ensures.objects i).directory) ∙ (rights g (goal.at.loop-state-preserved g c).In-Some).0) in
+          = (λ i. (c.rights_of.ensures i).directory) ∙ ((λ i. (c.out_cells.ensures.objects i).directory) ∙ (rights g (goal.at.loop-state-preserved g c).In-Some).0) in
           All-same P c.push_reserved.new.self.items (before.rights.items ++ c.rights_of.result ∷ []) c.push_reserved.ensures.items (All-push P before.rights.items c.rights_of.result before.invariant.rights of);
       kept = ap length c.push_reserved.ensures.items ∙ (length_push before.rights.items c.rights_of.result ∙ (ap (λ (n : ℕ). n + 1) before.invariant.kept
           ∙ sym (length_push before.yielded c.in-Some.state)));

@@ -5,4 +5,4 @@ use Rattle.shardpool.proofs.create.fresh_objects.Given as goal
 
 -- so many objects stand there, each empty
 abbrev pub invariant-loop : goal.invariant-loop
-invariant-loop g l = record { stand : length l.objects.items ≡ l.counter; room : l.count ≤ vec_capacity l.objects; empty : All (λ object. g.T.Clear.content object.value ≡ []) l.objects.items }
+invariant-loop g l = record { stand : length l.objects.items ≡ l.counter; room : l.count ≤ vec_capacity l.objects; empty : All (λ object. g.T.Clear.content object ≡ []) l.objects.items }

@@ -3,12 +3,11 @@ use Rattle.std.proofs.Common.{◌≡◌, ℕ, [], List, Option, Some, None, refl
 use Rattle.std.proofs.lemmas.Bool.{false≢true}
 use Rattle.keybits.specs.declared.shape.Shape.{Shape}
 use Rattle.keybits.specs.declared.place.Place.{Place}
-use Rattle.poolsteps.specs.Layout.{shard_start}
 use Rattle.poolsteps.specs.Views.{the_lane}
 use Rattle.shardpool.specs.LaneStates.{IsFirst}
 use Rattle.shardpool.specs.Tokens.{LaneOf}
 use Rattle.shardpool.specs.Lanes.{Made}
-use Rattle.shardpool.proofs.free.OwnLists.{opened-fillings, unopened-right, opened-fits}
+use Rattle.shardpool.proofs.free.OwnLists.{opened-fillings, opened-fits}
 use Rattle.shardpool.proofs.create.open_page.Goals as goal
 
 -- no chain hangs where it is empty
@@ -64,7 +63,7 @@ pub open_next-requires-clause-placed : goal.open_next-requires-clause-placed
 open_next-requires-clause-placed g c = c.lane.invariant.1.placed
 
 pub open_next-requires-clause-begins : goal.open_next-requires-clause-begins
-open_next-requires-clause-begins g c = let fits = c.lane.invariant.1 in fits.rights.first_is ∙ ap (shard_start c.lane.inside.state.shape) (sym fits.seat.number_is)
+open_next-requires-clause-begins g c = c.lane.invariant.1.rights.first_is
 
 pub open_next-requires-clause-narrow : goal.open_next-requires-clause-narrow
 open_next-requires-clause-narrow g c = c.lane.invariant.1.stores.narrow
@@ -104,10 +103,7 @@ returns-clause-fillings g c = λ filling made.
     opened-fillings c.lane.invariant.1 c.lane.inside.hand.table_id (omega (arith, opened, within, isnt, paged)) c.open_next.ensures filling (subst (λ (lane : LaneOf). Made lane filling) (sym c.lane.view_is) made)
 
 pub open_next-requires-clause-rights : goal.open_next-requires-clause-rights
-open_next-requires-clause-rights g c place inside own page =
-    let fits = c.lane.invariant.1 in
-    let lane = own ∙ fits.seat.number_is in
-    unopened-right fits place inside lane (let at = page in omega (arith, at))
+open_next-requires-clause-rights g c place inside own page = c.lane.invariant.1.rights.has_right place inside own (let at = page in omega (arith, at))
 
 -- the lane has the rights to the new places already
 pub invariant_of-lane : goal.invariant_of-lane

@@ -3,7 +3,7 @@ use Rattle.std.proofs.Common.{◌≡◌, ◌<◌, true, ℕ, refl, ap, sym, ◌�
 use Rattle.std.proofs.lemmas.Bool.{false≢true}
 use Rattle.keybits.specs.Shapes.{is_place}
 use Rattle.poolsteps.specs.Grids.{IsSpot}
-use Rattle.poolsteps.specs.Layout.{slot_start, shard_start}
+use Rattle.poolsteps.specs.Layout.{slot_start, shard_start, spots_at}
 use Rattle.shardpool.specs.Tokens.{LaneOf}
 use Rattle.shardpool.specs.Creates.{Pops}
 use Rattle.shardpool.specs.Lanes.{Made}
@@ -24,7 +24,7 @@ pub take_own-requires-clause-lists : goal.take_own-requires-clause-lists
 take_own-requires-clause-lists g c = c.lane.invariant.1.stores.lists.1
 
 pub take_own-requires-clause-begins : goal.take_own-requires-clause-begins
-take_own-requires-clause-begins g c = let fits = c.lane.invariant.1 in fits.rights.first_is ∙ ap (shard_start c.lane.inside.state.shape) (sym fits.stores.lists.0)
+take_own-requires-clause-begins g c = let fits = c.lane.invariant.1 in fits.rights.first_is ∙ ap (shard_start c.lane.inside.state.shape) (fits.seat.number_is ∙ sym fits.stores.lists.0)
 
 pub take_own-requires-clause-objects : goal.take_own-requires-clause-objects
 take_own-requires-clause-objects g c = listed-object c.lane.invariant.1
@@ -43,8 +43,8 @@ returns-clause-some g c =
     let content = g.T.Clear.content in
     let room = g.T.Clear.room in
     let new : LaneOf = lane_of c.lane.inside.hand.table_id c.lane.inside.hand.me.0 c.take_own.new.state in
-    subst (λ (lane : LaneOf). Pops content room lane new c.number.result c.in_ok-place.object.value) c.lane.view_is
-    (subst (λ (n : ℕ). Pops content room (lane_of c.lane.inside.hand.table_id c.lane.inside.hand.me.0 c.lane.inside.state) new n c.in_ok-place.object.value) (sym c.number.ensures)
+    subst (λ (lane : LaneOf). Pops content room lane new c.number.result c.in_ok-place.whole.object) c.lane.view_is
+    (subst (λ (n : ℕ). Pops content room (lane_of c.lane.inside.hand.table_id c.lane.inside.hand.me.0 c.lane.inside.state) new n c.in_ok-place.whole.object) (sym c.number.ensures)
     (popped c.lane.invariant.1 c.in_ok-place.ensures.0 c.lane.inside.hand.table_id))
 
 pub returns-clause-spot : goal.returns-clause-spot
@@ -56,6 +56,12 @@ returns-clause-spot g c =
       start = c.in_ok-place.ensures.1 ∙ ap (slot_start z) (sym c.number.ensures);
     } in
     subst (λ (lane : LaneOf). IsSpot lane.shape (record { place = c.number.result; start = c.in_ok-place.start }) c.number.result) c.lane.view_is spot
+
+pub returns-clause-at : goal.returns-clause-at
+returns-clause-at g c =
+    let s = c.lane.inside.state in
+    subst (λ (lane : LaneOf). c.in_ok-place.whole.spot ≡ spots_at lane.directory lane.shape c.number.result) c.lane.view_is
+    (c.in_ok-place.ensures.2 ∙ ap (spots_at s.objects.directory s.shape) (sym c.number.ensures))
 
 pub returns-clause-fillings : goal.returns-clause-fillings
 returns-clause-fillings g c = λ filling made.
@@ -72,3 +78,6 @@ returns-in_err-place-clause-some g c = rw c.from_residual.ensures tt
 
 pub returns-in_err-place-clause-spot : goal.returns-in_err-place-clause-spot
 returns-in_err-place-clause-spot g c = rw c.from_residual.ensures tt
+
+pub returns-in_err-place-clause-at : goal.returns-in_err-place-clause-at
+returns-in_err-place-clause-at g c = rw c.from_residual.ensures tt

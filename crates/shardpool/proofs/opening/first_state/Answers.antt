@@ -1,6 +1,7 @@
 -- What the lane keeps is what a lane begins with.
 use Rattle.std.proofs.Common.{rules, ℕ, replicate, refl, ap, ◌∙◌, arith}
 use Rattle.shardpool.proofs.calls.Openings.{first_row, unendowed-are, within-row}
+use Rattle.keybits.proofs.ShapeLemmas.{shape_bounds}
 use Rattle.keybits.specs.declared.shape.Shape.{Shape}
 use Rattle.keybits.specs.Shapes.{IsShape}
 use Rattle.freelists.specs.Shards.{shape_of}
@@ -41,9 +42,6 @@ shard_places-requires g c = c.requires.shape
 pub shard_start-requires-clause-shape : goal.shard_start-requires-clause-shape
 shard_start-requires-clause-shape g c = c.requires.shape
 
-pub slot_row-requires-2 : goal.slot_row-requires-2
-slot_row-requires-2 g c = c.requires.shape
-
 pub shard_start-requires-clause-shard : goal.shard_start-requires-clause-shard
 shard_start-requires-clause-shard g c = c.requires.number
 
@@ -61,11 +59,14 @@ new-requires-3-clause-shape g c = is-shape c.args.shape.now c.requires.shape
 
 pub new-requires-2 : goal.new-requires-2
 new-requires-2 g c =
-    let fits = within-row c.args.shape.now c.args.number c.requires.number in
+    let z = c.args.shape.now in
+    let fits = within-row z c.args.number c.requires.number in
     let first = c.shard_start.ensures in
     let places = c.shard_places.ensures in
-    let total = c.slot_row-2.ensures in
-    omega (arith, fits, first, places, total)
+    let bounds = shape_bounds z c.requires.shape in
+    let all = bounds.all in
+    let lanes = bounds.lanes in
+    omega (arith, fits, first, places, all, lanes)
 
 -- ---- what is made
 
@@ -78,7 +79,7 @@ returns g c = record {
   last_pushed = search rules;
   free = c.in_ok-free.ensures.empty;
   pages = c.new-3.ensures;
-  objects = unendowed-are c.args.shape.now c.args.number c.args.directory.ptr c.in_ok-objects.objects c.shard_places.result c.shard_start.result c.slot_row-2.result
-      c.shard_places.ensures c.shard_start.ensures c.slot_row-2.ensures c.in_ok-objects.ensures;
+  objects = unendowed-are c.args.shape.now c.args.number c.args.directory.ptr c.in_ok-objects.objects c.shard_places.result c.shard_start.result
+      c.shard_places.ensures c.shard_start.ensures c.in_ok-objects.ensures;
   places = c.in_ok-places.ensures;
 }

@@ -12,12 +12,13 @@ pub returns-then-generation-grid-clause-tails : goal.returns-then-generation-gri
 returns-then-generation-grid-clause-tails g c leave claim is claimed =
     let z : Shape = c.args.grid.now.shape in
     let place : ℕ = c.args.at.spot.place in
-    let carries = c.take_cell-whole.ensures.moves.carries in
+    let took = c.take_cell-whole.ensures.moves.carries in
+    let rests = c.retire.ensures.moves.carries in
     let last = c.if-generation-grid.true in
-    let few : 2 ≤ 33 = omega arith in
+    let few : 2 + 2 ≤ 33 = omega arith in
     goes-most
-    (goes-none (leave ∷ claim ∷ []) (did-carries carries few) (ends-at-last (caller_of z c.args.hand.now.me.0) place leave claim (is ∙ last))
-    (carries.elsewhere.under ∙ (c.requires.under ∙ none-at-last z c.args.at.lane place c.args.generation last))) (omega arith) (omega arith)
+    (goes-none (leave ∷ claim ∷ []) (did-carries (carries-more took rests) few) (ends-at-last (caller_of z c.args.hand.now.me.0) place leave claim (is ∙ last))
+    (rests.elsewhere.under ∙ (took.elsewhere.under ∙ (c.requires.under ∙ none-at-last z c.args.at.lane place c.args.generation last)))) (omega arith) (omega arith)
 
 pub returns-then-shard_of-at-clause-tails : goal.returns-then-shard_of-at-clause-tails
 returns-then-shard_of-at-clause-tails g c leave claim is claimed =
@@ -51,7 +52,11 @@ take_cell-whole-requires g c =
     }
 
 pub returns-then-generation-grid-clause-hand : goal.returns-then-generation-grid-clause-hand
-returns-then-generation-grid-clause-hand g c = c.take_cell-whole.ensures.moves.hand.0
+returns-then-generation-grid-clause-hand g c =
+    let took = c.take_cell-whole.ensures.moves.hand.0 in let rests = c.retire.ensures.moves.hand.0 in (rests.0 ∙ took.0, rests.1 ∙ took.1)
+
+pub returns-then-generation-grid-clause-reclaimed : goal.returns-then-generation-grid-clause-reclaimed
+returns-then-generation-grid-clause-reclaimed g c = c.retire.ensures.slots
 
 pub returns-then-shard_of-at-clause-hand : goal.returns-then-shard_of-at-clause-hand
 returns-then-shard_of-at-clause-hand g c = c.take_cell-whole.ensures.moves.hand.0
@@ -120,16 +125,22 @@ returns-clause-hand g c =
 pub get_mut-requires : goal.get_mut-requires
 get_mut-requires g c = stands-in c.requires.act.at.spot c.take_cell-whole.ensures.cell.2
 
-pub vacate-requires : goal.vacate-requires
-vacate-requires g c = stands-in c.requires.act.at.spot c.take_cell-whole.ensures.cell.2
+pub retire-requires-clause-may : goal.retire-requires-clause-may
+retire-requires-clause-may g c =
+    let act = c.requires.act in
+    let moves = c.take_cell-whole.ensures.moves in
+    record { hand = (moves.hand.0.0 ∙ act.hand.0, moves.hand.1); spot = act.at.spot; below = act.at.below; place = moves.place }
 
-pub returns-then-generation-grid-clause-at : goal.returns-then-generation-grid-clause-at
-returns-then-generation-grid-clause-at g c = c.vacate.ensures.vacancy ∙ c.take_cell-whole.ensures.cell.2
+pub retire-requires-clause-slots : goal.retire-requires-clause-slots
+retire-requires-clause-slots g c = c.take_cell-whole.ensures.slots
+
+pub retire-requires-clause-whole : goal.retire-requires-clause-whole
+retire-requires-clause-whole g c = c.take_cell-whole.ensures.cell.2
 
 -- ---- what the emptier took
 
 pub returns-then-generation-grid-clause-took : goal.returns-then-generation-grid-clause-took
-returns-then-generation-grid-clause-took g c = rw c.take_cell-whole.ensures.cell.0 at c.vacate.ensures.took
+returns-then-generation-grid-clause-took g c = rw c.take_cell-whole.ensures.cell.0 at c.retire.ensures.took
 
 pub returns-then-shard_of-at-clause-took : goal.returns-then-shard_of-at-clause-took
 returns-then-shard_of-at-clause-took g c = rw (c.get_mut.ensures.object, c.take_cell-whole.ensures.cell.0) at c.empty.ensures.took

@@ -26,7 +26,7 @@ returns g c =
     let made : c.of_number.result ≡ kept = λ i. record { shard = c.of_number.ensures.shard i; page = c.of_number.ensures.page i; slot = c.of_number.ensures.slot i } in record {
       objects = ap (λ o. o.items) c.keep.ensures ∙ ap (λ i. slice_set s.objects.items i (Some c.args.whole.object)) index;
       rights = ap (λ o. o.rights) c.keep.ensures ∙ ap (λ i. slice_set s.objects.rights i true) index;
-      same = (ap (λ o. o.directory) c.keep.ensures, ap (λ o. o.first) c.keep.ensures, ap (λ o. o.wide) c.keep.ensures);
+      same = (ap (λ o. o.directory) c.keep.ensures, ap (λ o. o.first) c.keep.ensures);
       list = c.push.ensures.pushed ∙ ap (λ place. record s.free { own = s.free.own ++ place ∷ [] }) made;
       free = c.push.ensures.places;
       rest = refl;

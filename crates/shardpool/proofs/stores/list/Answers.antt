@@ -35,9 +35,9 @@ returns g c =
     let kept : Place = place_numbered place in
     let made : c.of_number.result ≡ kept = λ i. record { shard = c.of_number.ensures.shard i; page = c.of_number.ensures.page i; slot = c.of_number.ensures.slot i } in
     let here = get_or_from_slice_get s.objects.rights (index_of s.shape place) true true c.requires.right in record {
-      objects = ap (λ o. o.items) c.fill.ensures ∙ ap (λ i. slice_set s.objects.items i (Some c.args.object.value)) index;
+      objects = ap (λ o. o.items) c.fill.ensures ∙ ap (λ i. slice_set s.objects.items i (Some c.args.object)) index;
       rights = ap (λ o. o.rights) c.fill.ensures ∙ (sym had ∙ ap (λ b. slice_set s.objects.rights (index_of s.shape place) b) here);
-      same = (ap (λ o. o.directory) c.fill.ensures, ap (λ o. o.first) c.fill.ensures, ap (λ o. o.wide) c.fill.ensures);
+      same = (ap (λ o. o.directory) c.fill.ensures, ap (λ o. o.first) c.fill.ensures);
       list = c.push.ensures.pushed ∙ ap (λ place. record s.free { own = s.free.own ++ place ∷ [] }) made;
       free = c.push.ensures.places;
       rest = refl;

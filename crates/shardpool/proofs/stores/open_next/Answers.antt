@@ -6,8 +6,6 @@ use Rattle.std.proofs.lemmas.List.{nil_from_length}
 use Rattle.keybits.specs.declared.shape.Shape.{Shape}
 use Rattle.keybits.specs.Places.{place_at, shard_of}
 use Rattle.keybits.specs.Shapes.{IsShape, is_place, shard_places, index_of}
-use Rattle.std.specs.declared.alloc.Global.{Global}
-use Rattle.std_alloc.specs.declared.boxed.Box.{Box}
 use Rattle.freelists.specs.Queues.{IsAway}
 use Rattle.freelists.specs.Shards.{place_numbered}
 use Rattle.poolsteps.specs.Layout.{shard_start}
@@ -26,8 +24,8 @@ loop-object-init g c =
     let pages = page-opened c.open_next.result old.pages c.open_next.new.self c.open_next.ensures.some.1 c.open_next.ensures.lowest c.open_next.ensures.opened (omega (arith, paged, low)) in
     record {
       on = none-on content g.T.Clear.room old c.open_next.new.self (into_iter_items c.into_iter-object-iterator.result) c.requires.own pages c.requires.narrow
-          (ap (λ (xs : List (Box g.row.T.Denot Global)). length xs) gives.0 ∙ c.requires.count)
-          (subst (λ (xs : List (Box g.row.T.Denot Global)). All (λ object. content object.value ≡ []) xs) (sym gives.0) c.requires.empty);
+          (ap (λ (xs : List g.row.T.Denot). length xs) gives.0 ∙ c.requires.count)
+          (subst (λ (xs : List g.row.T.Denot). All (λ object. content object ≡ []) xs) (sym gives.0) c.requires.empty);
       rest = search rules;
     }
 
@@ -45,7 +43,7 @@ overflow_cast-place g c =
       chain = c.requires.chain;
     } in
     let now = c.loop-object.state in
-    let on = subst (λ (left : List (Box g.row.T.Denot Global)). OpensSlots content room old left now) c.in-Some.ensures.steps.0 c.loop-object.invariant.on in
+    let on = subst (λ (left : List g.row.T.Denot). OpensSlots content room old left now) c.in-Some.ensures.steps.0 c.loop-object.invariant.on in
     let same = same-number content room old may now on in
     let low = low-shard content room old may now on in
     omega (arith, same, low)
@@ -64,7 +62,7 @@ overflow_cast-place-in-loop-object-2 g c =
       chain = c.requires.chain;
     } in
     let now = c.loop-object.state in
-    let on = subst (λ (left : List (Box g.row.T.Denot Global)). OpensSlots content room old left now) c.in-Some.ensures.steps.0 c.loop-object.invariant.on in
+    let on = subst (λ (left : List g.row.T.Denot). OpensSlots content room old left now) c.in-Some.ensures.steps.0 c.loop-object.invariant.on in
     let slot = c.len.ensures.len ∙ slot-is content room old may now on in
     let small = small-slot content room old may now on in
     omega (arith, slot, small)
@@ -83,7 +81,7 @@ number-requires-clause-slot g c =
       chain = c.requires.chain;
     } in
     let now = c.loop-object.state in
-    let on = subst (λ (left : List (Box g.row.T.Denot Global)). OpensSlots content room old left now) c.in-Some.ensures.steps.0 c.loop-object.invariant.on in
+    let on = subst (λ (left : List g.row.T.Denot). OpensSlots content room old left now) c.in-Some.ensures.steps.0 c.loop-object.invariant.on in
     let slot = c.len.ensures.len ∙ slot-is content room old may now on in
     let small = small-slot content room old may now on in
     omega (arith, slot, small)
@@ -102,7 +100,7 @@ list-requires-clause-shape g c =
       chain = c.requires.chain;
     } in
     let now = c.loop-object.state in
-    let on = subst (λ (left : List (Box g.row.T.Denot Global)). OpensSlots content room old left now) c.in-Some.ensures.steps.0 c.loop-object.invariant.on in
+    let on = subst (λ (left : List g.row.T.Denot). OpensSlots content room old left now) c.in-Some.ensures.steps.0 c.loop-object.invariant.on in
     subst IsShape (sym (same-shape content room old may now on)) c.requires.shape
 
 pub list-requires-clause-place : goal.list-requires-clause-place
@@ -119,7 +117,7 @@ list-requires-clause-place g c =
       chain = c.requires.chain;
     } in
     let now = c.loop-object.state in
-    let on = subst (λ (left : List (Box g.row.T.Denot Global)). OpensSlots content room old left now) c.in-Some.ensures.steps.0 c.loop-object.invariant.on in
+    let on = subst (λ (left : List g.row.T.Denot). OpensSlots content room old left now) c.in-Some.ensures.steps.0 c.loop-object.invariant.on in
     let at : c.number.result ≡ place_at old.number old.pages.opened on.slots
     = c.number.ensures ∙ (λ i. place_at (same-number content room old may now on i) (c.opened-page.ensures.opened i) ((c.len.ensures.len ∙ slot-is content room old may now on) i)) in
     ap (λ (n : ℕ). is_place now.shape n) at ∙ (ap (λ (z : Shape). is_place z (place_at old.number old.pages.opened on.slots)) (same-shape content room old may now on)
@@ -139,7 +137,7 @@ list-requires-clause-narrow g c =
       chain = c.requires.chain;
     } in
     let now = c.loop-object.state in
-    let on = subst (λ (left : List (Box g.row.T.Denot Global)). OpensSlots content room old left now) c.in-Some.ensures.steps.0 c.loop-object.invariant.on in
+    let on = subst (λ (left : List g.row.T.Denot). OpensSlots content room old left now) c.in-Some.ensures.steps.0 c.loop-object.invariant.on in
     on.narrow ∙ ap shard_places (sym (same-shape content room old may now on))
 
 pub list-requires-clause-away : goal.list-requires-clause-away
@@ -156,7 +154,7 @@ list-requires-clause-away g c =
       chain = c.requires.chain;
     } in
     let now = c.loop-object.state in
-    let on = subst (λ (left : List (Box g.row.T.Denot Global)). OpensSlots content room old left now) c.in-Some.ensures.steps.0 c.loop-object.invariant.on in
+    let on = subst (λ (left : List g.row.T.Denot). OpensSlots content room old left now) c.in-Some.ensures.steps.0 c.loop-object.invariant.on in
     let at : c.number.result ≡ place_at old.number old.pages.opened on.slots
     = c.number.ensures ∙ (λ i. place_at (same-number content room old may now on i) (c.opened-page.ensures.opened i) ((c.len.ensures.len ∙ slot-is content room old may now on) i)) in
     subst (λ (n : ℕ). IsAway now.free (place_numbered n)) (sym at) (slot-away content room old may now on)
@@ -175,7 +173,7 @@ list-requires-clause-placed g c =
       chain = c.requires.chain;
     } in
     let now = c.loop-object.state in
-    let on = subst (λ (left : List (Box g.row.T.Denot Global)). OpensSlots content room old left now) c.in-Some.ensures.steps.0 c.loop-object.invariant.on in
+    let on = subst (λ (left : List g.row.T.Denot). OpensSlots content room old left now) c.in-Some.ensures.steps.0 c.loop-object.invariant.on in
     ap (λ (s : LaneState g.row.T.Denot). s.places.shape) on.rest ∙ (c.requires.placed ∙ sym (same-shape content room old may now on))
 
 pub list-requires-clause-begins : goal.list-requires-clause-begins
@@ -192,7 +190,7 @@ list-requires-clause-begins g c =
       chain = c.requires.chain;
     } in
     let now = c.loop-object.state in
-    let on = subst (λ (left : List (Box g.row.T.Denot Global)). OpensSlots content room old left now) c.in-Some.ensures.steps.0 c.loop-object.invariant.on in
+    let on = subst (λ (left : List g.row.T.Denot). OpensSlots content room old left now) c.in-Some.ensures.steps.0 c.loop-object.invariant.on in
     let at : c.number.result ≡ place_at old.number old.pages.opened on.slots
     = c.number.ensures ∙ (λ i. place_at (same-number content room old may now on i) (c.opened-page.ensures.opened i) ((c.len.ensures.len ∙ slot-is content room old may now on) i)) in
     on.same.1 ∙ (c.requires.begins
@@ -212,7 +210,7 @@ list-requires-clause-right g c =
       chain = c.requires.chain;
     } in
     let now = c.loop-object.state in
-    let on = subst (λ (left : List (Box g.row.T.Denot Global)). OpensSlots content room old left now) c.in-Some.ensures.steps.0 c.loop-object.invariant.on in
+    let on = subst (λ (left : List g.row.T.Denot). OpensSlots content room old left now) c.in-Some.ensures.steps.0 c.loop-object.invariant.on in
     let at : c.number.result ≡ place_at old.number old.pages.opened on.slots
     = c.number.ensures ∙ (λ i. place_at (same-number content room old may now on i) (c.opened-page.ensures.opened i) ((c.len.ensures.len ∙ slot-is content room old may now on) i)) in
     let index : index_of now.shape c.number.result ≡ index_of old.shape (place_at old.number old.pages.opened on.slots) = λ i. index_of (same-shape content room old may now on i) (at i) in
@@ -234,11 +232,11 @@ loop-object-preserved g c =
       chain = c.requires.chain;
     } in
     let now = c.loop-object.state in
-    let on = subst (λ (left : List (Box g.row.T.Denot Global)). OpensSlots content room old left now) c.in-Some.ensures.steps.0 c.loop-object.invariant.on in
+    let on = subst (λ (left : List g.row.T.Denot). OpensSlots content room old left now) c.in-Some.ensures.steps.0 c.loop-object.invariant.on in
     let at : c.number.result ≡ place_at old.number old.pages.opened on.slots
     = c.number.ensures ∙ (λ i. place_at (same-number content room old may now on i) (c.opened-page.ensures.opened i) ((c.len.ensures.len ∙ slot-is content room old may now on) i)) in
     record {
-      on = one-on content room old may now on c.list.new.state (subst (λ (n : ℕ). KeepsOwn n c.in-Some.object.value now c.list.new.state) at c.list.ensures);
+      on = one-on content room old may now on c.list.new.state (subst (λ (n : ℕ). KeepsOwn n c.in-Some.object now c.list.new.state) at c.list.ensures);
       rest = let was = c.loop-object.invariant.rest in let gone = c.in-Some.ensures.steps.1 in let shorter = ap length c.in-Some.ensures.steps.0 in omega arith;
     }
 
@@ -249,4 +247,4 @@ returns g c =
     let room = g.T.Clear.room in
     let last = c.loop-object in
     let none : into_iter_items last.object-iterator ≡ [] = nil_from_length (into_iter_items last.object-iterator) (sym last.invariant.rest ∙ c.in-None.ensures.steps.0) in
-    all-on content room old last.state (subst (λ (left : List (Box g.row.T.Denot Global)). OpensSlots content room old left last.state) none last.invariant.on)
+    all-on content room old last.state (subst (λ (left : List g.row.T.Denot). OpensSlots content room old left last.state) none last.invariant.on)

@@ -1,4 +1,4 @@
-use Rattle.std.proofs.Common.{◌≡◌, ◌-◌, arith, ℕ, true, Some, None, refl, sym, ap, ◌∙◌, subst}
+use Rattle.std.proofs.Common.{◌≡◌, ◌-◌, arith, ℕ, true, false, Some, None, refl, sym, ap, ◌∙◌, subst}
 use Rattle.std.specs.Prelude.{slice_get, slice_set}
 use Rattle.std.proofs.lemmas.Option.{slice_get_within}
 use Rattle.keybits.specs.declared.shape.Shape.{Shape}
@@ -9,6 +9,7 @@ use Rattle.freelists.specs.Shards.{IsOwn}
 use Rattle.freelists.specs.Queues.{FreePlaces}
 use Rattle.freelists.proofs.ShardLemmas.{OwnNumber}
 use Rattle.poolsteps.specs.Layout.{slot_start}
+use Rattle.poolsteps.specs.Objects.{spot_at}
 use Rattle.shardpool.proofs.free.Stores.{own-inside, first-in}
 use Rattle.shardpool.proofs.free.Words.{word-low, word-index}
 use Rattle.shardpool.proofs.stores.take_own.Given.{Over}
@@ -67,7 +68,7 @@ unreachable-requires g c =
     let at = index g (goal.at.unreachable-requires g c).After-start-start (shard g (goal.at.unreachable-requires g c).After-number) in
     let stood = c.requires.objects p (first-in p c.pop.new.self.own s.free.own c.in_ok-place.ensures.first) in
     let there = subst (λ n. slice_get s.objects.items n ≡ Some (Some stood.0)) (sym at) stood.1 in
-    let bad = sym (c.in-None.ensures.none refl) ∙ there in
+    let bad = sym (c.in-None.ensures.none refl).0 ∙ there in
     cc bad
 
 pub returns : goal.returns
@@ -77,12 +78,13 @@ returns g c =
     let at = index g h (shard g (goal.at.returns g c).After-number) in (
       record {
         list = e.first;
-        stood = subst (λ n. slice_get old.objects.items n ≡ Some (Some c.in-Some.object.value)) at c.in-Some.ensures.some;
-        objects = c.in-Some.ensures.objects ∙ ap (λ i. record old.objects { items = slice_set old.objects.items i None }) at;
+        stood = subst (λ n. slice_get old.objects.items n ≡ Some (Some c.in-Some.whole.object)) at c.in-Some.ensures.some.1;
+        objects = c.in-Some.ensures.some.2 ∙ ap (λ i. record old.objects { items = slice_set old.objects.items i None; rights = slice_set old.objects.rights i false }) at;
         away = e.away;
         free = e.places;
         own = e.rest;
         rest = refl;
       },
       stands g h,
+      c.in-Some.ensures.some.0 ∙ ap (spot_at old.objects.directory) (stands g h),
     )

@@ -1,7 +1,11 @@
 -- What was written into the created object is published.
-use Rattle.std.proofs.Common.{◌∙◌, ap, subst, inl, inr, refl}
+use Rattle.std.proofs.Common.{◌∙◌, ap, sym, subst, inl, inr, refl}
 use Rattle.std.proofs.lemmas.Result.{IfOk-from_err, err_from_is_err_and}
 use Rattle.guards.proofs.Seating.{goes-further, on-ok, on-err, puts}
+use Rattle.shardpool.specs.Tokens.{LaneOf}
+use Rattle.shardpool.specs.Creates.{Gives}
+use Rattle.guards.proofs.seats.Seat.put.Given.{Over}
+use Rattle.guards.proofs.seats.Seat.put.Goals.{After-self-1}
 use Rattle.guards.proofs.seats.Seat.put.Goals as goal
 
 pub write-requires : goal.write-requires
@@ -9,7 +13,11 @@ write-requires g c = ap g.T.Clear.content c.value_mut.ensures.object ∙ c.in_ok
 
 pub publish-requires : goal.publish-requires
 publish-requires g c =
-    let made = c.in_ok-filling.ensures.made in record { made = record { table = made.table; start = made.start; place = made.place; may = made.may; emptied = made.emptied } }
+    let made = c.in_ok-filling.ensures.made in record { made = record { table = made.table; directory = made.directory; start = made.start; place = made.place; may = made.may; emptied = made.emptied } }
+
+pub leave-requires : goal.leave-requires
+leave-requires g c =
+    let made = c.in_ok-filling.ensures.made in record { table = made.table; directory = made.directory; start = made.start; place = made.place; may = made.may; emptied = made.emptied }
 
 pub returns-clause-number : goal.returns-clause-number
 returns-clause-number g c = c.publish.ensures.number ∙ c.create.ensures.number
@@ -35,11 +43,16 @@ returns-clause-keeps g c =
 
 -- ---- nothing is published
 
+-- the lane is as it was when the filling is left
+left-so : (g : Over) (c : After-self-1 g) → Gives g.T.Clear.content g.T.Clear.room c.args.self.now.lane c.create.new.self.lane c.in_ok-filling.filling
+    → Gives g.T.Clear.content g.T.Clear.room c.args.self.now.lane c.leave.new.self c.in_ok-filling.filling
+left-so g c gives = subst (λ (lane : LaneOf). Gives g.T.Clear.content g.T.Clear.room c.args.self.now.lane lane c.in_ok-filling.filling) (sym c.leave.ensures) gives
+
 pub returns-in_err-filling-clause-none : goal.returns-in_err-filling-clause-none
 returns-in_err-filling-clause-none g c = λ err. inl (c.in_err-filling.ensures.none refl)
 
 pub returns-then-is_err-clause-none : goal.returns-then-is_err-clause-none
-returns-then-is_err-clause-none g c = λ err. inr (c.in_ok-filling.filling, c.in_ok-filling.ensures.gives)
+returns-then-is_err-clause-none g c = λ err. inr (c.in_ok-filling.filling, left-so g c c.in_ok-filling.ensures.gives)
 
 pub returns-in_err-filling-clause-full : goal.returns-in_err-filling-clause-full
 returns-in_err-filling-clause-full g c =
@@ -55,7 +68,7 @@ returns-then-is_err-clause-full g c = λ err. absurd (cc err)
 pub returns-then-is_err-clause-memory : goal.returns-then-is_err-clause-memory
 returns-then-is_err-clause-memory g c = λ err.
     let refused = on-err c.write.result _ (c.if-is_err.ensures.value) c.write.ensures.err in
-    inr (c.in_ok-filling.filling, c.in_ok-filling.ensures.gives, subst (g.C.Contents.may_refuse c.args.contents.now) c.value_mut.ensures.object refused)
+    inr (c.in_ok-filling.filling, left-so g c c.in_ok-filling.ensures.gives, subst (g.C.Contents.may_refuse c.args.contents.now) c.value_mut.ensures.object refused)
 
 -- ---- nothing is cleared
 

@@ -17,6 +17,9 @@ use Rattle.shardpool.specs.contracts.pool.Lane as lane
 use Rattle.shardpool.specs.contracts.pool.Pool as pool
 use Rattle.shardpool.proofs.pool.Lane.TheSendSync as lane_crossing
 use Rattle.shardpool.proofs.pool.Pool.TheSendSync as pool_crossing
+use Rattle.poolsteps.proofs.cells.Base.TheSendSync as base_crossing
+use Rattle.poolsteps.proofs.cells.Whole.TheSendSync as whole_crossing
+use Rattle.poolhandle.specs.contracts.counting_lane.CountingLane as counting
 use Rattle.poolhandle.specs.contracts.kept.Kept as kept
 use Rattle.poolhandle.specs.contracts.fillings.Fillings as fillings
 use Rattle.poolhandle.specs.contracts.shared.Given as given
@@ -49,13 +52,16 @@ shared_sync : IsSync shared.the_row
 shared_sync = search (counted_crossing.the_sync, counted_crossing.the_send, pool_sync, given_send, given_sync, sendable, crosses) depth 20
 
 kept_send : IsSend kept.the_row
-kept_send = search (sendable, crosses) depth 20
+kept_send = search (base_crossing.the_send, whole_crossing.the_send, sendable, crosses) depth 20
 
 fillings_send : IsSend fillings.the_row
 fillings_send = search (kept_send, sendable, crosses) depth 20
 
+counting_send : IsSend (counting.the_row buffer.the_row clears.ghosts)
+counting_send = search (lane_send, sendable, crosses) depth 20
+
 handle_send : IsSend handle.the_row
-handle_send = search (lane_send, shared_send, shared_sync, fillings_send, sendable, crosses) depth 80
+handle_send = search (base_crossing.the_send, whole_crossing.the_send, kept_send, counting_send, lane_send, shared_send, shared_sync, fillings_send, sendable, crosses) depth 80
 
 keyless : (p : Ptr) (xs : List (handle.the_row).Denot) → Keyless (slot_owns handle.the_row p xs)
 keyless p [] = tt

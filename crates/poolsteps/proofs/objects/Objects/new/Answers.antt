@@ -23,5 +23,4 @@ returns g c =
       refl,
       all-away object_in c.args.places (c.args.places + SHARDS_APART) c.in_ok-row.row.items more c.in_ok-row.ensures,
       all-away is_here c.args.places (c.args.places + SHARDS_APART) c.in_ok-row.row.items more c.in_ok-row.ensures,
-      refl,
     )

@@ -1,6 +1,7 @@
-use Rattle.std.proofs.Common.{◌≡◌, ◌<◌, ◌+◌, true, List, [], ◌∷◌, ℕ, length, slice_get, slice_set, Some, refl, sym, ap, ◌∙◌, subst, arith}
+use Rattle.std.proofs.Common.{◌≡◌, ◌<◌, true, List, [], ◌∷◌, ℕ, length, slice_set, Some, refl, sym, ap, ◌∙◌, subst, arith}
 use Rattle.keybits.specs.declared.shape.Shape.{Shape}
 use Rattle.poolsteps.specs.Shares.{room_of}
+use Rattle.poolsteps.specs.Objects.{spot_at}
 use Rattle.poolsteps.specs.Layout.{slot_start, spots_at}
 use Rattle.keybits.specs.Keys.{place_of, generation_of}
 use Rattle.seqpool.specs.declared.act.Act.{Act}
@@ -12,14 +13,8 @@ use Rattle.shardpool.specs.LaneStates.{Fits}
 use Rattle.shardpool.specs.Lanes.{Made, Did, Calls}
 use Rattle.shardpool.proofs.calls.CallParts.{calls-more}
 use Rattle.shardpool.proofs.references.RowChanges.{rows-low}
-use Rattle.shardpool.proofs.calls.Publishes.{made-spot, made-right, published-did, published-held, published-one, published-others, published-held-with}
-use Rattle.poolsteps.specs.declared.grid.Spot.{Spot}
-use Rattle.poolsteps.specs.Grids.{IsSpot}
-use Rattle.keybits.specs.Places.{shard_of}
-use Rattle.keybits.specs.Shapes.{index_of}
-use Rattle.shardpool.specs.Stores.{GivesOut}
-use Rattle.shardpool.proofs.frame.SeenHistories.{same-shape, same-directory}
-use Rattle.shardpool.proofs.calls.Ends.{fits-beside, own-begins}
+use Rattle.shardpool.proofs.calls.Publishes.{made-spot, published-did, published-held, published-one, published-others, published-held-with}
+use Rattle.shardpool.proofs.frame.SeenHistories.{same-directory}
 use Rattle.shardpool.proofs.frame.LaneFacts.{lane_of}
 use Rattle.shardpool.proofs.pool.Pool.downgrade.Given.{Over}
 use Rattle.shardpool.proofs.calls.AfterCalls.{after-downgrade}
@@ -38,46 +33,20 @@ module _ (g : Over) (c : goal.After-to g) where
 
   -- the filling by its parts
   abbrev filling : FillingOf g.row.T.Denot
-  filling = record { table = c.args.filling.table; key = c.spend-key.result.0; start = c.spend-key.result.1; object = c.give_out-whole.result.object }
+  filling = record { table = c.args.filling.table; directory = c.args.filling.directory; key = c.spend-key.result.0; start = c.spend-key.result.1; object = c.spend-key.result.2.object }
 
   same : filling ≡ c.args.filling
-  same = λ i. record { table = c.args.filling.table; key = c.spend-key.ensures.0 i; start = c.spend-key.ensures.1 i; object = (c.give_out-whole.ensures.whole.1 ∙ c.spend-key.ensures.2) i }
-
-  -- its place is then no more among the lane's rights
-  out : GivesOut (place_of filling.key) c.lane.inside.state c.give_out-whole.new.state
-  out = subst (λ (p : ℕ). GivesOut p c.lane.inside.state c.give_out-whole.new.state) c.place_of.ensures.place c.give_out-whole.ensures.gives
+  same = λ i. record { table = c.args.filling.table; directory = c.args.filling.directory; key = c.spend-key.ensures.0 i; start = c.spend-key.ensures.1 i; object = c.spend-key.ensures.3 i }
 
   was : Made before filling
   was = subst (λ (f : FillingOf g.row.T.Denot). Made before f) (sym same) (subst (λ (l : LaneOf). Made l c.args.filling) (sym c.lane.view_is) c.requires.made)
-
-pub give_out-whole-requires-clause-shape : goal.give_out-whole-requires-clause-shape
-give_out-whole-requires-clause-shape g c = c.lane.invariant.1.seat.shape
-
-pub give_out-whole-requires-clause-spot : goal.give_out-whole-requires-clause-spot
-give_out-whole-requires-clause-spot g c =
-    let spot : Spot = record { place = c.place_of.result; start = c.spend-key.result.1 } in
-    let there = made-spot spot c.spend-key.result.0 c.requires.made (sym (ap (λ l. l.shape) c.lane.view_is)) c.spend-key.ensures.0 c.spend-key.ensures.1 c.place_of.ensures.place in
-    subst (IsSpot c.lane.inside.state.shape spot) (sym there.place_is) there
-
-pub give_out-whole-requires-clause-begins : goal.give_out-whole-requires-clause-begins
-give_out-whole-requires-clause-begins g c = (own-begins (fits-beside c.lane.invariant.1)).0
-
-pub give_out-whole-requires-clause-own : goal.give_out-whole-requires-clause-own
-give_out-whole-requires-clause-own g c =
-    let fits = c.lane.invariant.1 in
-    ap shard_of (c.place_of.ensures.place ∙ ap place_of c.spend-key.ensures.0) ∙ (c.requires.made.place.own ∙ (sym (ap (λ l. l.number) c.lane.view_is) ∙ (fits.seat.number_is ∙ sym fits.stores.lists.0)))
-
-pub give_out-whole-requires-clause-right : goal.give_out-whole-requires-clause-right
-give_out-whole-requires-clause-right g c =
-    let s = c.lane.inside.state in
-    let made : Made (lane_of c.lane.inside.hand.table_id c.lane.inside.hand.me.0 s) c.args.filling = subst (λ (l : LaneOf). Made l c.args.filling) (sym c.lane.view_is) c.requires.made in
-    subst (λ (p : ℕ). slice_get s.objects.rights (index_of s.shape p) ≡ Some true) (sym (c.place_of.ensures.place ∙ ap place_of c.spend-key.ensures.0)) (made-right c.lane.invariant.1 made)
 
 pub downgrade-share-requires-clause-at : goal.downgrade-share-requires-clause-at
 downgrade-share-requires-clause-at g c =
     let spot = made-spot (record { place = c.place_of.result; start = c.spend-key.result.1 }) c.spend-key.result.0 c.requires.made (c.requires.owns.1 ∙ sym (ap (λ p. p.shape) c.self.view_is))
     c.spend-key.ensures.0 c.spend-key.ensures.1 c.place_of.ensures.place in
-    c.give_out-whole.ensures.whole.0 ∙ (λ i. spots_at (same-directory c.lane.view_is c.requires.owns.2 c.self.view_is i) (sym (same-shape c.lane.view_is c.requires.owns.1 c.self.view_is) i) (spot.place_is i))
+    let directory = c.requires.made.directory ∙ (c.requires.owns.2 ∙ sym (ap (λ p. p.directory) c.self.view_is)) in
+    c.spend-key.ensures.2 ∙ (λ i. spot_at (directory i) ((sym c.spend-key.ensures.1 ∙ spot.start) i))
 
 pub downgrade-share-requires-clause-spot : goal.downgrade-share-requires-clause-spot
 downgrade-share-requires-clause-spot g c =
@@ -91,8 +60,7 @@ add_first_reference-requires-clause-at g c =
     let fits = subst (λ (y : Shape). Fits g.T.Clear.content g.T.Clear.room y c.lane.inside.hand.me.0 s) shape c.lane.invariant.1 in
     let spot = made-spot (record { place = c.place_of.result; start = c.spend-key.result.1 }) c.spend-key.result.0 c.requires.made (c.requires.owns.1 ∙ sym (ap (λ p. p.shape) c.self.view_is))
     c.spend-key.ensures.0 c.spend-key.ensures.1 c.place_of.ensures.place in
-    subst (λ (xs : List (HeldKey g.row.T.Denot)). c.spend-key.result.1 < length xs) (sym (ap (λ x. x.rows.items) c.give_out-whole.ensures.gives.rest))
-    (subst (λ (n : ℕ). n < length s.rows.items) (sym spot.start) (rows-low (place_of c.spend-key.result.0) fits.rows spot.inside))
+    subst (λ (n : ℕ). n < length s.rows.items) (sym spot.start) (rows-low (place_of c.spend-key.result.0) fits.rows spot.inside)
 
 pub invariant_of-lane : goal.invariant_of-lane
 invariant_of-lane g c =
@@ -104,33 +72,32 @@ invariant_of-lane g c =
     let at : c.spend-key.result.1 ≡ slot_start z (place_of c.spend-key.result.0)
     = (made-spot (record { place = c.place_of.result; start = c.spend-key.result.1 }) c.spend-key.result.0 c.requires.made (c.requires.owns.1 ∙ sym (ap (λ p. p.shape) c.self.view_is))
     c.spend-key.ensures.0 c.spend-key.ensures.1 c.place_of.ensures.place).start in
-    let now = published-held-with s c.add_first_reference.new.state c.lane.inside.hand.table_id (filling g c) (g.T.Clear.content c.give_out-whole.result.object) true (fits g c) told.called.did told.called.idle told.acts (was g c)
-    c.give_out-whole.new.state (out g c) c.add_first_reference.ensures.rest share (told.share.3 ∙ λ i. spots_at (sym (same-directory c.lane.view_is c.requires.owns.2 c.self.view_is) i) z (place_of c.spend-key.result.0)) refl told.share.0 told.share.1 told.share.2 told.slot told.cell
-    (c.add_first_reference.ensures.rows ∙ (λ i. slice_set ((ap (λ x. x.rows.items) (out g c).rest) i) (at i) row))
-    (ap (λ x. x.references) c.add_first_reference.ensures.rest ∙ ap (λ x. x.references + 1) (out g c).rest) in
+    let now = published-held-with s c.add_first_reference.new.state c.lane.inside.hand.table_id (filling g c) (g.T.Clear.content c.spend-key.result.2.object) true (fits g c) told.called.did told.called.idle told.acts (was g c)
+    c.add_first_reference.ensures.rest share (told.share.3 ∙ λ i. spots_at (sym (same-directory c.lane.view_is c.requires.owns.2 c.self.view_is) i) z (place_of c.spend-key.result.0)) refl told.share.0 told.share.1 told.share.2 told.slot told.cell
+    (c.add_first_reference.ensures.rows ∙ (λ i. slice_set s.rows.items (at i) row))
+    (ap (λ x. x.references) c.add_first_reference.ensures.rest) in
     (told.called.did.held ∙ c.lane.invariant.0, subst (λ (y : Shape). Fits g.T.Clear.content g.T.Clear.room y c.downgrade-share.new.hand.me.0 c.add_first_reference.new.state) (sym now.shape_is) now)
 
 pub returns : goal.returns
 returns g c =
     let z : Shape = c.self.inside.grid.shape in
     let s = c.lane.inside.state in
-    let m = c.give_out-whole.new.state in
     let n = c.add_first_reference.new.state in
     let rest = c.add_first_reference.ensures.rest in
     let told = c.downgrade-share.ensures in
     let table = c.downgrade-share.new.hand.table_id in
     let now = c.downgrade-share.new.hand.me.0 in
-    let content : List ℕ = g.T.Clear.content c.give_out-whole.result.object in
-    let did = published-did s n c.lane.inside.hand.table_id (filling g c) content true (fits g c) told.called.did told.called.idle told.acts (was g c) m (out g c) rest table told.hand.0 in
+    let content : List ℕ = g.T.Clear.content c.spend-key.result.2.object in
+    let did = published-did s n c.lane.inside.hand.table_id (filling g c) content true (fits g c) told.called.did told.called.idle told.acts (was g c) rest table told.hand.0 in
     let one : acts.Publish s.number c.spend-key.result.0 content true ≡ acts.Publish s.number c.args.filling.key (g.T.Clear.content c.args.filling.object) true
     = ap (λ (f : FillingOf g.row.T.Denot). acts.Publish s.number f.key (g.T.Clear.content f.object) true) (same g c) in
-    let has = published-one s n c.lane.inside.hand.table_id (filling g c) content true (fits g c) told.called.did told.called.idle told.acts (was g c) m (out g c) rest refl in
+    let has = published-one s n c.lane.inside.hand.table_id (filling g c) content true (fits g c) told.called.did told.called.idle told.acts (was g c) rest refl in
     after-downgrade {pool = c.args.self.now} {old = c.args.lane.now} {new = lane_of table now n} c.requires.owns {filling = c.args.filling} c.requires.made
     c.to.result (c.to.ensures ∙ c.spend-key.ensures.0, rw (← c.spend-key.ensures.0) (omega (arith, has)))
     (rw (← c.self.view_is, ← c.lane.view_is)
     (subst (λ (f : FillingOf g.row.T.Denot). Calls z (Publishing f.key (g.T.Clear.content f.object) true) c.lane.inside.hand.me.0 now) (same g c) (calls-more told.called (omega arith))))
     (rw (← c.lane.view_is) (subst (λ (x : Act). Did (x ∷ []) (before g c) (lane_of table now n)) one did))
-    (ap (λ (key : ℕ). room_of now.seen now.rooms (place_of key)) (sym c.spend-key.ensures.0) ∙ (told.room ∙ ap g.T.Clear.room (c.give_out-whole.ensures.whole.1 ∙ c.spend-key.ensures.2)))
-    (λ other differs is. published-others s n c.lane.inside.hand.table_id (filling g c) content true (fits g c) told.called.did told.called.idle told.acts (was g c) m (out g c) rest
+    (ap (λ (key : ℕ). room_of now.seen now.rooms (place_of key)) (sym c.spend-key.ensures.0) ∙ (told.room ∙ ap g.T.Clear.room c.spend-key.ensures.3))
+    (λ other differs is. published-others s n c.lane.inside.hand.table_id (filling g c) content true (fits g c) told.called.did told.called.idle told.acts (was g c) rest
     table told.hand.0 other (λ e. differs (e ∙ c.spend-key.ensures.0)) (subst (λ (l : LaneOf). Made l other) (sym c.lane.view_is) is))
-    (rw (← c.lane.view_is) (published-held s n c.lane.inside.hand.table_id (filling g c) content true (fits g c) told.called.did told.called.idle told.acts (was g c) m (out g c) rest))
+    (rw (← c.lane.view_is) (published-held s n c.lane.inside.hand.table_id (filling g c) content true (fits g c) told.called.did told.called.idle told.acts (was g c) rest))

@@ -12,8 +12,7 @@ use Rattle.shardpool.specs.Lanes.{Made}
 use Rattle.shardpool.specs.Creates.{FollowsChain}
 use Rattle.shardpool.proofs.frame.LaneFacts.{lane_of}
 use Rattle.poolsteps.specs.Layout.{spots_at}
-use Rattle.shardpool.proofs.calls.Ends.{fits-beside, own-begins}
-use Rattle.shardpool.proofs.frame.SeenHistories.{same-shape, same-directory}
+use Rattle.shardpool.proofs.frame.SeenHistories.{same-shape}
 use Rattle.shardpool.proofs.free.Takes.{follows-here, hung-inside, hung-begins, hung-rests, follow-goes, followed-fits, followed-chain, followed-fillings}
 use Rattle.shardpool.proofs.pool.Pool.follow.Goals as goal
 
@@ -33,19 +32,16 @@ returns-in_err-first-clause-some g c = rw c.from_residual.ensures tt
 pub returns-in_err-first-clause-spot : goal.returns-in_err-first-clause-spot
 returns-in_err-first-clause-spot g c = rw c.from_residual.ensures tt
 
+pub returns-in_err-first-clause-at : goal.returns-in_err-first-clause-at
+returns-in_err-first-clause-at g c = rw c.from_residual.ensures tt
+
 pub returns-in_err-first-clause-fillings : goal.returns-in_err-first-clause-fillings
 returns-in_err-first-clause-fillings g c = λ filling made. made
 
 -- ---- the first is followed
 
-pub follow_on-object-requires-clause-shape : goal.follow_on-object-requires-clause-shape
-follow_on-object-requires-clause-shape g c = c.lane.invariant.1.seat.shape
-
-pub follow_on-object-requires-clause-narrow : goal.follow_on-object-requires-clause-narrow
-follow_on-object-requires-clause-narrow g c = c.lane.invariant.1.stores.narrow
-
-pub follow_on-object-requires-clause-chain : goal.follow_on-object-requires-clause-chain
-follow_on-object-requires-clause-chain g c =
+pub follow_on-requires-clause-chain : goal.follow_on-requires-clause-chain
+follow_on-requires-clause-chain g c =
     let hung : c.lane.inside.state.free.chain ≡ Some c.in_ok-first.first = sym c.chain.ensures.first ∙ c.in_ok-first.was in
     ap (λ (first : Option Place). is_some first) hung
 
@@ -94,27 +90,8 @@ follow-link-requires-clause-rests g c =
     let hung : c.lane.inside.state.free.chain ≡ Some c.in_ok-first.first = sym c.chain.ensures.first ∙ c.in_ok-first.was in
     (hung-rests c.lane.invariant.1 hung (sym (same-shape c.lane.view_is c.requires.owns.1 c.self.view_is)) (c.spot-spot.ensures.place_is ∙ c.number.ensures)).rests
 
-pub follow_on-object-requires-clause-spot : goal.follow_on-object-requires-clause-spot
-follow_on-object-requires-clause-spot g c =
-    subst (λ (z : Shape). IsSpot z c.spot-spot.result c.spot-spot.result.place) (same-shape c.lane.view_is c.requires.owns.1 c.self.view_is)
-    (subst (IsSpot c.self.inside.grid.shape c.spot-spot.result) (sym c.spot-spot.ensures.place_is) c.spot-spot.ensures)
-
-pub follow_on-object-requires-clause-begins : goal.follow_on-object-requires-clause-begins
-follow_on-object-requires-clause-begins g c = (own-begins (fits-beside c.lane.invariant.1)).0
-
-pub follow_on-object-requires-clause-own : goal.follow_on-object-requires-clause-own
-follow_on-object-requires-clause-own g c =
-    let fits = c.lane.invariant.1 in
-    let hung : c.lane.inside.state.free.chain ≡ Some c.in_ok-first.first = sym c.chain.ensures.first ∙ c.in_ok-first.was in
-    (hung-rests fits hung refl (c.spot-spot.ensures.place_is ∙ c.number.ensures)).own ∙ sym fits.stores.lists.0
-
-pub follow_on-object-requires-clause-at : goal.follow_on-object-requires-clause-at
-follow_on-object-requires-clause-at g c =
-    c.follow-link.ensures.cell.2 ∙ (λ i. spots_at (sym (same-directory c.lane.view_is c.requires.owns.2 c.self.view_is) i)
-    (same-shape c.lane.view_is c.requires.owns.1 c.self.view_is i) c.spot-spot.result.place)
-
-pub follow_on-object-requires-clause-goes : goal.follow_on-object-requires-clause-goes
-follow_on-object-requires-clause-goes g c =
+pub follow_on-requires-clause-goes : goal.follow_on-requires-clause-goes
+follow_on-requires-clause-goes g c =
     let fits = c.lane.invariant.1 in
     let hung : c.lane.inside.state.free.chain ≡ Some c.in_ok-first.first = sym c.chain.ensures.first ∙ c.in_ok-first.was in
     let at = c.spot-spot.ensures.place_is ∙ c.number.ensures in
@@ -127,7 +104,7 @@ invariant_of-lane g c =
     let hung : c.lane.inside.state.free.chain ≡ Some c.in_ok-first.first = sym c.chain.ensures.first ∙ c.in_ok-first.was in
     let at = c.spot-spot.ensures.place_is ∙ c.number.ensures in
     let follows = follows-here c.lane.view_is c.requires.owns.1 c.self.view_is c.follow-link.ensures.follows in
-    (c.follow-link.ensures.follows.held ∙ c.lane.invariant.0, followed-fits fits hung at follows c.follow_on-object.ensures.follows)
+    (c.follow-link.ensures.follows.held ∙ c.lane.invariant.0, followed-fits fits hung at follows c.follow_on.ensures)
 
 pub returns-clause-some : goal.returns-clause-some
 returns-clause-some g c =
@@ -135,11 +112,9 @@ returns-clause-some g c =
     let hung : c.lane.inside.state.free.chain ≡ Some c.in_ok-first.first = sym c.chain.ensures.first ∙ c.in_ok-first.was in
     let at = c.spot-spot.ensures.place_is ∙ c.number.ensures in
     let follows = follows-here c.lane.view_is c.requires.owns.1 c.self.view_is c.follow-link.ensures.follows in
-    let new : LaneOf = lane_of c.follow-link.new.hand.table_id c.follow-link.new.hand.me.0 c.follow_on-object.new.state in
-    subst (λ (lane : LaneOf). FollowsChain g.T.Clear.content g.T.Clear.room lane new c.spot-spot.result.place c.follow_on-object.result.value) c.lane.view_is
-    (subst (λ (object : g.row.T.Denot). FollowsChain g.T.Clear.content g.T.Clear.room (lane_of c.lane.inside.hand.table_id c.lane.inside.hand.me.0 c.lane.inside.state) new c.spot-spot.result.place object)
-    (sym c.follow_on-object.ensures.object)
-    (followed-chain fits hung at follows c.follow_on-object.ensures.follows c.lane.inside.hand.table_id c.follow-link.new.hand.table_id c.follow-link.ensures.hand.0 c.follow-link.ensures.cell.0 c.follow-link.ensures.cell.1))
+    let new : LaneOf = lane_of c.follow-link.new.hand.table_id c.follow-link.new.hand.me.0 c.follow_on.new.state in
+    subst (λ (lane : LaneOf). FollowsChain g.T.Clear.content g.T.Clear.room lane new c.spot-spot.result.place c.follow-link.result.1.object) c.lane.view_is
+    (followed-chain fits hung at follows c.follow_on.ensures c.lane.inside.hand.table_id c.follow-link.new.hand.table_id c.follow-link.ensures.hand.0 c.follow-link.ensures.cell.0 c.follow-link.ensures.cell.1)
 
 pub returns-clause-fillings : goal.returns-clause-fillings
 returns-clause-fillings g c = λ filling made.
@@ -147,9 +122,12 @@ returns-clause-fillings g c = λ filling made.
     let hung : c.lane.inside.state.free.chain ≡ Some c.in_ok-first.first = sym c.chain.ensures.first ∙ c.in_ok-first.was in
     let at = c.spot-spot.ensures.place_is ∙ c.number.ensures in
     let follows = follows-here c.lane.view_is c.requires.owns.1 c.self.view_is c.follow-link.ensures.follows in
-    followed-fillings fits hung at follows c.follow_on-object.ensures.follows c.lane.inside.hand.table_id c.follow-link.new.hand.table_id c.follow-link.ensures.hand.0 filling
+    followed-fillings fits hung at follows c.follow_on.ensures c.lane.inside.hand.table_id c.follow-link.new.hand.table_id c.follow-link.ensures.hand.0 filling
     (subst (λ (lane : LaneOf). Made lane filling) (sym c.lane.view_is) made)
 
 pub returns-clause-spot : goal.returns-clause-spot
 returns-clause-spot g c = subst (λ (p : PoolOf). IsSpot p.shape c.spot-spot.result c.spot-spot.result.place) c.self.view_is
     (subst (IsSpot c.self.inside.grid.shape c.spot-spot.result) (sym c.spot-spot.ensures.place_is) c.spot-spot.ensures)
+
+pub returns-clause-at : goal.returns-clause-at
+returns-clause-at g c = subst (λ (p : PoolOf). c.follow-link.result.1.spot ≡ spots_at p.directory p.shape c.spot-spot.result.place) c.self.view_is c.follow-link.ensures.cell.2
