@@ -104,6 +104,7 @@ impl<T: Clear + Drop> Pool<T> {
     }
 
     /// As `get`. The object of a place that a miss reclaims is handed to the emptier.
+    #[inline(always)]
     pub fn get_with<E: Emptier<T>>(
         &self,
         lane: &mut Lane<T>,

@@ -33,6 +33,7 @@ impl<T: Clear + Drop> Pool<T> {
     }
 
     /// As `release`. The object of a place that it reclaims is handed to the emptier.
+    #[inline(always)]
     pub fn release_with<E: Emptier<T>>(
         &self,
         lane: &mut Lane<T>,

@@ -20,6 +20,7 @@ impl<T: Clear> Pool<T> {
     }
 
     /// As `release`. The object of a place that it reclaims is handed to the emptier.
+    #[inline(always)]
     pub fn release_with<E: Emptier<T>>(
         &self,
         lane: &mut Lane<T>,
