@@ -110,10 +110,11 @@ class Shorter:
             return False
         self.counts["rewritten: row of values that are alike"] += 1
         count = s.text[s.tokens[i + 5].start : s.tokens[open_at - 1].end]
-        s.edits.append((s.tokens[i].start, s.tokens[body].start, ""))
+        begin = "// SAFETY: it is `fresh` of which `ZEROS` tells.\nunsafe { " if fresh else ""
+        s.edits.append((s.tokens[i].start, s.tokens[body].start, begin))
         written = f"push_fresh({count}, T::ZEROS, || " if fresh else f"push_alike({count}, || "
         s.edits.append((s.tokens[body + 2].start, s.tokens[body + 3].end, written))
-        s.edits.append((s.tokens[close + 1].end, s.tokens[close + 2].end, ""))
+        s.edits.append((s.tokens[close + 1].end, s.tokens[close + 2].end, " }" if fresh else ""))
         for k in (*range(i, body), body + 2, body + 3, close + 2):
             s.done[k] = True
         return True

@@ -380,6 +380,8 @@ class Walk:
             return None
         name, told = ("push_fresh", ["T", "::", "ZEROS", ","]) if fresh else ("push_alike", [])
         want = row + [name, "("] + count + [","] + told + ["|", "|"] + value + [")", ";"]
+        if fresh:
+            want = ["unsafe", "{", *want, "}"]
         got, end = [], j
         while end < len(o) and len(got) < len(want):
             if o[end] == "," and o[end + 1] in CLOSE and want[len(got)] != ",":

@@ -7,3 +7,4 @@ pub mod Pages
 pub mod OwnLists
 pub mod Takes
 pub mod Words
+pub mod Starts

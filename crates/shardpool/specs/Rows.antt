@@ -1,9 +1,9 @@
 -- Where the shares stand that a lane's rows have, and where a reference's place stands.
-use Rattle.std.specs.Prelude.{◌≡◌, ℕ, ◌+◌, ◌*◌, List, Some, slice_get}
+use Rattle.std.specs.Prelude.{◌≡◌, ℕ, zero, suc, ◌+◌, ◌*◌, List, [], ◌∷◌, ◌++◌, Some, slice_get}
 use denote.RawPtr.{Ptr}
 use Rattle.poolsteps.specs.Share.{Share}
 use Rattle.keybits.specs.declared.shape.Shape.{Shape}
-use Rattle.keybits.specs.Shapes.{IsShape}
+use Rattle.keybits.specs.Shapes.{IsShape, page_start}
 use Rattle.keybits.specs.Keys.{place_of}
 use Rattle.poolsteps.specs.Layout.{slot_start}
 use Rattle.shardpool.specs.HeldKeys.{HeldKey}
@@ -16,6 +16,11 @@ AreStanding {T} directory rows = (at : ℕ) (row : HeldKey T) (s : Share T) → 
 -- the number that tells where the places of a pool stand: how large the first page of a shard is, and how many pages it has
 abbrev pub pages_code : Shape → ℕ
 pages_code z = 32 * z.first_page + z.pages
+
+-- where each of so many pages begins among the places of its shard
+abbrev pub page_starts : Shape → ℕ → List ℕ
+page_starts z zero = []
+page_starts z (suc pages) = page_starts z pages ++ page_start z pages ∷ []
 
 -- in each pool with this number the key's place stands here
 abbrev pub StandsIn : ℕ → ℕ → ℕ → Type 0

@@ -1,18 +1,17 @@
 //! A pool and its lanes: what each has.
-ghost use Rattle.std.specs.Prelude.{◌≡◌, ◌<◌, ◌≤◌, ◌↔◌, true, None, IfSome, IsSome};
+ghost use Rattle.std.specs.Prelude.{◌≡◌, ◌+◌, ◌<◌, ◌≤◌, ◌↔◌, true, None, IfSome, IsSome};
 ghost use Rattle.keybits.specs.Keys.{is_key, place_of};
-ghost use Rattle.poolsteps.specs.Layout.{slot_start, page_count, page_rows};
+ghost use Rattle.poolsteps.specs.Layout.{slot_start};
+ghost use Rattle.poolsteps.specs.declared.layout.TheConstants.{SHARDS_APART};
 ghost use Rattle.poolsteps.specs.Grids.{IsSpot};
-ghost use Rattle.keybits.specs.Shapes.{IsShape};
+ghost use Rattle.keybits.specs.Shapes.{IsShape, shard_places};
 ghost use Rattle.keybits.specs.SameShapes.{IsShape-prop};
-ghost use Rattle.shardpool.specs.Rows.{pages_code};
+ghost use Rattle.shardpool.specs.Rows.{pages_code, page_starts};
 
 use crate::closing::HandRow;
 use freelists::{LocalFree, Pages};
-use keybits::{PAGE_NUMBERS, Shape, place_of};
-use poolsteps::{
-    BYTES_APART, Directory, Grid, Hand, Objects, PageRow, Slot, Spot, Tally, page_rows,
-};
+use keybits::{PAGE_NUMBERS, SHARD_NUMBERS, Shape, place_of, shard_of};
+use poolsteps::{BYTES_APART, Directory, Grid, Hand, Objects, SHARDS_APART, Slot, Spot, Tally};
 use slotcell::Clear;
 use std::alloc::Global;
 use std::marker::Model;
@@ -147,18 +146,21 @@ impl<T: Clear> Model for Lane<T> {
     ghost invariant = { λ l. (l.hand.me.1 ≡ []) × Fits T.content T.room l.state.shape l.hand.me.0 l.state };
 }
 
-/// Where the places of each page of a pool stand.
+/// Where the places of a pool stand: alike in each shard.
 #[derive(Drop)]
 pub(crate) struct Places {
     /// The shape of the pool.
     pub(crate) shape: Shape,
     /// Which pools have each place at the same number: those of this code.
     pub(crate) code: u32,
-    /// The rows of its pages.
-    pub(crate) rows: Vec<PageRow>,
+    /// How far the places of a shard stand from those of the next.
+    pub(crate) apart: u32,
+    /// Where each page begins among the places of its shard.
+    pub(crate) starts: Vec<u32>,
     ghost checked: { IsShape shape } by { IsShape-prop shape },
     ghost code_is: { code ≡ pages_code shape },
-    ghost rows_are: { rows.items ≡ page_rows shape (page_count shape) },
+    ghost apart_is: { apart ≡ shard_places shape + SHARDS_APART },
+    ghost starts_are: { starts.items ≡ page_starts shape shape.pages },
 }
 
 impl Places {
@@ -171,24 +173,37 @@ impl Places {
         requires { IsShape shape.now }
         ensures { IfSome result (λ places. places.shape ≡ shape.now) }
     {
-        let rows = page_rows(alloc, shape)?;
+        let starts = page_starts(alloc, shape)?;
         Some(Places {
             shape: *shape,
             code: 32 * shape.first_page + shape.pages,
-            rows,
+            apart: shape.shard_places() + SHARDS_APART as u32,
+            starts,
         })
     }
 
-    /// Where a place of the pool stands, by the row of its page.
+    /// Where a place of the pool stands.
     #[inline]
     pub(crate) fn start(&self, place: u32) -> u32
         requires { is_place self.now.shape place ≡ true }
         ensures start { result ≡ slot_start self.now.shape place }
         ensures below { result < slot_row self.now.shape }
     {
-        let page = &self.rows[(place / PAGE_NUMBERS) as usize];
-        page.start + place % PAGE_NUMBERS
+        let page = place % SHARD_NUMBERS / PAGE_NUMBERS;
+        shard_of(place) * self.apart + self.starts[page as usize] + place % PAGE_NUMBERS
     }
+}
+
+/// Where each page begins among the places of its shard. None where memory was refused.
+fn page_starts(alloc: Global, shape: &Shape) -> Option<Vec<u32>>
+    requires { IsShape shape.now }
+    ensures { IfSome result (λ starts. starts.items ≡ page_starts shape.now shape.now.pages) }
+{
+    let mut starts = Vec::with_capacity(alloc, shape.pages as usize).ok()?;
+    for page in 0..shape.pages {
+        starts.push_reserved(shape.index(page * PAGE_NUMBERS) as u32);
+    }
+    Some(starts)
 }
 
 /// So many bytes, at an end of what a lane writes in each call.

@@ -20,9 +20,8 @@ impl<'s, T: Clear, P: Stands<'s, T>> Turn<'s, T, P> {
     ) -> Option<Block<T>> {
         // SAFETY: the caller's.
         let key = unsafe { self.publish(begun) };
-        self.clear(key);
         // (None where somebody guessed the key, and has a reference.)
-        let block = self.taken()?;
+        let block = self.clear(key).1?;
         if !is_empty {
             return Some(block);
         }

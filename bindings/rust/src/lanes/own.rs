@@ -3,11 +3,11 @@ use super::room::Room;
 use super::seat::{Near, Post, Stands};
 use super::segment::Segment;
 use super::token::{Begun, By, Held};
-use super::turn::{with_new, with_page, Short, TooMany, Turn};
+use super::turn::{with_new, with_page, Missed, Short, Turn};
 use crate::clear::Clear;
 use crate::errors::CreateError;
 use crate::key::Key;
-use crate::object::{self, Block};
+use crate::object::Block;
 use std::marker::PhantomData;
 use std::mem;
 use std::panic::{self, AssertUnwindSafe};
@@ -58,21 +58,13 @@ impl<'s, T: Clear, P: Stands<'s, T>> Own<'s, T, P> {
         self.at.segment().room()
     }
 
-    /// Empties what the last call took out, if it was the last to let go of an object. Calls that are made meanwhile, by `T::clear`,
-    /// leave theirs to this one.
-    #[inline(always)]
-    fn finish(self) {
-        if let Some(block) = self.turn().taken() {
-            self.let_go(block);
-        }
-    }
-
     /// The place of a filling that isn't published is back for the close.
     pub(super) fn leave(self, start: u64) {
         self.turn().leave(start);
     }
 
-    /// Empties an object that was taken out of a place of this segment.
+    /// Empties an object that a call took out of a place of this segment, as the last to let go of it. Calls that are made meanwhile, by
+    /// `T::clear`, leave theirs to this one.
     #[inline(always)]
     pub(super) fn let_go(self, mut block: Block<T>) {
         if T::plain().0 {
@@ -118,18 +110,17 @@ impl<'s, T: Clear, P: Stands<'s, T>> Own<'s, T, P> {
         None
     }
 
-    /// The same where that is rare.
+    /// Empties what a get or a release took out, if it did, which is rare.
     #[inline(always)]
-    fn finish_rare(self) {
+    fn let_go_rare(self, taken: Option<Block<T>>) {
         #[cold]
         #[inline(never)]
-        fn finish<T: Clear>(post: Post<'_, T>) {
+        fn let_go<T: Clear>(post: Post<'_, T>, block: Block<T>) {
             // SAFETY: the thread has the lane alone.
-            let own = unsafe { Own::of(post) };
-            own.finish();
+            unsafe { Own::of(post) }.let_go(block);
         }
-        if object::has_taken() {
-            finish(self.post());
+        if let Some(block) = taken {
+            let_go(self.post(), block);
         }
     }
 
@@ -265,20 +256,22 @@ impl<'s, T: Clear, P: Stands<'s, T>> Own<'s, T, P> {
     #[inline(always)]
     pub(super) fn get<W: By<T>>(self, key: Key) -> Option<Held<'s, T, W>> {
         match self.turn().get(key) {
-            Ok(Some(held)) => Some(held),
-            Ok(None) => {
-                self.finish_rare();
+            Ok(held) => Some(held),
+            Err(Missed::Gone(taken)) => {
+                self.let_go_rare(taken);
                 None
             }
-            Err(TooMany) => too_many(),
+            Err(Missed::TooMany) => too_many(),
         }
     }
 
     /// A clear of this segment.
     #[inline(always)]
     pub(super) fn clear(self, key: Key) -> bool {
-        let cleared = self.turn().clear(key);
-        self.finish();
+        let (cleared, taken) = self.turn().clear(key);
+        if let Some(block) = taken {
+            self.let_go(block);
+        }
         cleared
     }
 
@@ -349,8 +342,8 @@ impl<'s, T: Clear, P: Stands<'s, T>> Own<'s, T, P> {
     #[inline(always)]
     pub(super) unsafe fn release<W>(self, held: Held<'s, T, W>) {
         // SAFETY: the caller's.
-        unsafe { self.turn().release(held) };
-        self.finish_rare();
+        let taken = unsafe { self.turn().release(held) };
+        self.let_go_rare(taken);
     }
 }
 

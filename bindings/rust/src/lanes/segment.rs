@@ -246,10 +246,7 @@ impl<T: Clear> Segment<T> {
         let call = Call;
         let census = shardpool::close(proved, row);
         call.end();
-        // SAFETY: the calls before took out what they took, so these are of this close.
-        let objects = unsafe { object::all_taken::<T>() };
         if object::FINDS_LOST {
-            objects.find();
             seats.iter_mut().for_each(Seat::find_blocks);
         }
         // (With the chunks, and the objects in their blocks.)

@@ -4,7 +4,7 @@ use super::own::too_many;
 use super::seat::{Joint, Post};
 use super::segment::Segment;
 use super::token::{Begun, By, Far, Held, OfThread};
-use super::turn::{with_new, with_page, Short, TooMany, Turn};
+use super::turn::{with_new, with_page, Missed, Short, Turn};
 use crate::clear::Clear;
 use crate::errors::CreateError;
 use crate::key::Key;
@@ -25,24 +25,38 @@ pub(super) struct Taken<T: Clear> {
     block: Block<T>,
 }
 
-/// What the last call took out, which is a user of the lane from now on; if it isn't put away here.
-#[inline(always)]
-fn taken<T: Clear>(turn: &mut Turn<'_, T>, joint: &mut Joint) -> Option<Taken<T>> {
-    let block = not_plain(turn)?;
-    joint.come();
-    Some(Taken { block })
+impl<T: Clear> Taken<T> {
+    /// What a call took out, which is a user of the lane from now on; if it isn't put away here.
+    #[inline(always)]
+    fn of(block: Option<Block<T>>, turn: &mut Turn<'_, T>, joint: &mut Joint) -> Option<Taken<T>> {
+        let block = not_plain(block?, turn)?;
+        joint.come();
+        Some(Taken { block })
+    }
 }
 
-/// What the last call took out, where code of others may run as it is emptied. Else that is done here, under the lock, and the block put away.
+/// What a call took out, where code of others may run as it is emptied. Else that is done here, under the lock, and the block put away.
 #[inline(always)]
-fn not_plain<T: Clear>(turn: &mut Turn<'_, T>) -> Option<Block<T>> {
-    let mut block = turn.taken()?;
+fn not_plain<T: Clear>(mut block: Block<T>, turn: &mut Turn<'_, T>) -> Option<Block<T>> {
     if !T::plain().0 {
         return Some(block);
     }
     block.clear();
     turn.put_away(block);
     None
+}
+
+/// A get under the lock.
+#[inline(always)]
+fn get<'s, T: Clear, W: By<T>>(
+    turn: &mut Turn<'s, T>,
+    joint: &mut Joint,
+    key: Key,
+) -> Result<Held<'s, T, W>, Missed<Taken<T>>> {
+    turn.get(key).map_err(|missed| match missed {
+        Missed::Gone(block) => Missed::Gone(Taken::of(block, turn, joint)),
+        Missed::TooMany => Missed::TooMany,
+    })
 }
 
 /// A create of a lane with a place on its own list.
@@ -155,27 +169,38 @@ impl<'s, T: Clear> Post<'s, T> {
         key: Key,
         come: impl Fn(&mut Joint),
     ) -> Result<Option<Held<'s, T, W>>, NotShared> {
-        let got = self.shared(|turn, joint| match turn.get(key) {
-            Ok(Some(held)) => {
+        let got = self.shared(|turn, joint| {
+            let got = get(turn, joint, key);
+            if got.is_ok() {
                 come(joint);
-                Ok(Ok(held))
             }
-            Ok(None) => Ok(Err(taken(turn, joint))),
-            Err(TooMany) => Err(TooMany),
+            got
         });
-        match got.ok_or(NotShared)? {
-            Ok(Ok(held)) => Ok(Some(held.shared())),
-            Ok(Err(taken)) => {
+        Ok(self.finish_get(got.ok_or(NotShared)?))
+    }
+
+    /// What a get gave; or what it took out is emptied, without the lock.
+    #[inline(always)]
+    fn finish_get<W: By<T>>(
+        self,
+        got: Result<Held<'s, T, W>, Missed<Taken<T>>>,
+    ) -> Option<Held<'s, T, W>> {
+        match got {
+            Ok(held) => Some(held.shared()),
+            Err(Missed::Gone(taken)) => {
                 self.finish(taken);
-                Ok(None)
+                None
             }
-            Err(TooMany) => too_many(),
+            Err(Missed::TooMany) => too_many(),
         }
     }
 
     /// A clear of this segment.
     pub(super) fn shared_clear(self, key: Key) -> Result<bool, NotShared> {
-        let cleared = self.shared(|turn, joint| (turn.clear(key), taken(turn, joint)));
+        let cleared = self.shared(|turn, joint| {
+            let (cleared, block) = turn.clear(key);
+            (cleared, Taken::of(block, turn, joint))
+        });
         let (cleared, taken) = cleared.ok_or(NotShared)?;
         self.finish(taken);
         Ok(cleared)
@@ -183,7 +208,10 @@ impl<'s, T: Clear> Post<'s, T> {
 
     /// The same, where nobody has the lock now: it doesn't wait. What comes back is to be emptied by the caller.
     pub(super) fn try_shared_clear(self, key: Key) -> Option<(bool, Option<Block<T>>)> {
-        self.try_shared(|turn, _| (turn.clear(key), not_plain(turn)))
+        self.try_shared(|turn, _| {
+            let (cleared, block) = turn.clear(key);
+            (cleared, block.and_then(|block| not_plain(block, turn)))
+        })
     }
 
     /// Empties what a call took out, without the lock.
@@ -235,21 +263,7 @@ impl<'s, T: Clear> Post<'s, T> {
     /// No thread has the lane alone.
     pub(super) unsafe fn locked_get(self, key: Key) -> Option<Held<'s, T, OfThread>> {
         // SAFETY: the caller's.
-        let got = unsafe {
-            self.locked(|turn, joint| match turn.get(key) {
-                Ok(Some(held)) => Ok(Ok(held)),
-                Ok(None) => Ok(Err(taken(turn, joint))),
-                Err(TooMany) => Err(TooMany),
-            })
-        };
-        match got {
-            Ok(Ok(held)) => Some(held.shared()),
-            Ok(Err(taken)) => {
-                self.finish(taken);
-                None
-            }
-            Err(TooMany) => too_many(),
-        }
+        self.finish_get(unsafe { self.locked(|turn, joint| get(turn, joint, key)) })
     }
 
     /// Gives a reference back.
@@ -261,8 +275,8 @@ impl<'s, T: Clear> Post<'s, T> {
         // SAFETY: the caller's.
         let taken = unsafe {
             self.locked(|turn, joint| {
-                turn.release(held);
-                taken(turn, joint)
+                let block = turn.release(held);
+                Taken::of(block, turn, joint)
             })
         };
         self.finish(taken);
@@ -281,8 +295,8 @@ impl<T: Clear> Post<'_, T> {
         // SAFETY: the lane of a handle is shared. The rest is the caller's.
         let (taken, is_last) = unsafe {
             self.locked(|turn, joint| {
-                turn.release(held);
-                let taken = not_plain(turn);
+                let block = turn.release(held);
+                let taken = block.and_then(|block| not_plain(block, turn));
                 let is_last = taken.is_none() && joint.leave();
                 (taken, is_last)
             })

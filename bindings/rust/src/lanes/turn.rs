@@ -7,7 +7,7 @@ use crate::erased::poolsteps::{stack_word, Whole};
 use crate::erased::shardpool::{self, CreateFault, MOST_REFERENCES};
 use crate::errors::{CreateError, MemoryRefused};
 use crate::key::Key;
-use crate::object::{self, Block, Chain, Chunk, Crowded, Object};
+use crate::object::{Block, Chain, Chunk, Crowded, Object, Taken};
 use crate::shim::{Global, Ready};
 use crate::sync::{self, AtomicU32, Ordering};
 use std::marker::PhantomData;
@@ -39,8 +39,13 @@ fn cell<T>() -> Whole<Object<T>> {
     unsafe { NonNull::<Whole<Object<T>>>::dangling().as_ptr().read() }
 }
 
-/// The lane has as many references as it may.
-pub(super) struct TooMany;
+/// Why a get gives nothing.
+pub(super) enum Missed<B> {
+    /// The key isn't there. What the get took out of the place that it reclaimed, if it was the last to leave that.
+    Gone(Option<B>),
+    /// The lane has as many references as it may.
+    TooMany,
+}
 
 /// What a create without memory of its own needs.
 pub(super) enum Short<T> {
@@ -230,13 +235,6 @@ impl<'s, T: Clear, P: Stands<'s, T>> Turn<'s, T, P> {
         self.store().chunks.put(home, object, chunk)
     }
 
-    /// What the last call took out of a place.
-    #[inline(always)]
-    pub(super) fn taken(&mut self) -> Option<Block<T>> {
-        // SAFETY: each call takes out what it took, so this is of this lane's last call.
-        unsafe { object::taken::<T>() }
-    }
-
     /// A create of a lane with a place on its own list.
     #[inline(always)]
     pub(super) fn create_short<W: By<T>>(
@@ -389,43 +387,47 @@ impl<'s, T: Clear, P: Stands<'s, T>> Turn<'s, T, P> {
 
     /// A get of this segment.
     #[inline(always)]
-    pub(super) fn get<W: By<T>>(&mut self, key: Key) -> Result<Option<Held<'s, T, W>>, TooMany> {
+    pub(super) fn get<W: By<T>>(&mut self, key: Key) -> Result<Held<'s, T, W>, Missed<Block<T>>> {
         if self.references() >= MOST_REFERENCES {
-            return Err(TooMany);
+            return Err(Missed::TooMany);
         }
+        let mut taken = Taken::none();
         let (pool, lane, call) = self.proved();
-        let Some(proved) = pool.get(lane, u64::from(key)) else {
+        let Some(proved) = pool.get_with(lane, u64::from(key), &mut taken) else {
             call.end();
-            return Ok(None);
+            return Err(Missed::Gone(taken.into_block()));
         };
         // SAFETY: the lane has a reference to the key, so a publish of this file put the object there.
         let object = unsafe { lane.read(&proved).address() };
         call.end();
         let place = (key, proved.start);
         let way = W::of(self.at.segment());
-        Ok(Some(Held::new(self.post(), place, object, way)))
+        Ok(Held::new(self.post(), place, object, way))
     }
 
-    /// Gives a reference back.
+    /// Gives a reference back. What it took out of the place that it reclaimed.
     ///
     /// # Safety
     ///
     /// It is of this lane.
     #[inline(always)]
-    pub(super) unsafe fn release<W>(&mut self, held: Held<'_, T, W>) {
+    pub(super) unsafe fn release<W>(&mut self, held: Held<'_, T, W>) -> Option<Block<T>> {
         let (key, start) = held.into_proved();
+        let mut taken = Taken::none();
         let (pool, lane, call) = self.proved();
         let proved = ProvedRef::to(key, start, &lane.state.places);
-        pool.release(lane, proved);
+        pool.release_with(lane, proved, &mut taken);
         call.end();
+        taken.into_block()
     }
 
-    /// A clear of this segment.
+    /// A clear of this segment: whether it marked the key, and what it took out of the place that it reclaimed.
     #[inline(always)]
-    pub(super) fn clear(&mut self, key: Key) -> bool {
+    pub(super) fn clear(&mut self, key: Key) -> (bool, Option<Block<T>>) {
+        let mut taken = Taken::none();
         let (pool, lane, call) = self.proved();
-        let cleared = pool.clear(lane, u64::from(key));
+        let cleared = pool.clear_with(lane, u64::from(key), &mut taken);
         call.end();
-        cleared
+        (cleared, taken.into_block())
     }
 }

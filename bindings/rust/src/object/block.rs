@@ -78,7 +78,7 @@ impl<T> Block<T> {
     }
 
     /// A close found the block.
-    fn find(self) {
+    pub(super) fn find(self) {
         let body = self.into_body();
         sync::writes(body.as_ptr(), BODY);
         // SAFETY: the block was ours.

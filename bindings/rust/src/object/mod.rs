@@ -8,47 +8,41 @@ pub(crate) use block::{Block, Chain, Returned, FINDS_LOST};
 pub(crate) use chunk::{Chunk, Chunks, Crowded};
 pub(crate) use memory::{Counted, Fixed, Later};
 
+use crate::erased::shardpool::Emptier;
 use crate::erased::slotcell;
 use crate::shim::Global;
-use crate::sync::{self, thread_local};
-use block::{address, Body, BODY};
-use std::cell::Cell;
+use block::{address, Body};
 use std::marker::PhantomData;
-use std::ptr::{self, NonNull};
+use std::ptr::NonNull;
 
-thread_local! {
-    /// The blocks that the proved call under way on this thread took out of objects, by `next`. They are of one type, which the
-    /// caller of the call knows; between calls there are none.
-    static TAKEN: Cell<*mut ()> = const { Cell::new(ptr::null_mut()) };
+/// What a proved call took out of the place that it reclaimed: a block, or none. (A call reclaims one place at most.)
+pub(crate) struct Taken<T>(Option<NonNull<Body<T>>>);
+
+impl<T> Taken<T> {
+    #[inline(always)]
+    pub(crate) fn none() -> Taken<T> {
+        Taken(None)
+    }
+
+    /// The block. (Where it isn't asked for, its chunk alone has it until the close: so a call that took nothing out has nothing to drop.)
+    #[inline(always)]
+    pub(crate) fn into_block(self) -> Option<Block<T>> {
+        // SAFETY: an object had the body, which `hook` took out of a block, and has it no more.
+        self.0.map(|body| unsafe { Block::from_body(body) })
+    }
 }
 
-/// Whether the call took any out.
-#[inline(always)]
-pub(crate) fn has_taken() -> bool {
-    TAKEN.with(|taken| !taken.get().is_null())
-}
+/// Empties an object of its block, so that no code of `T` runs in the call.
+impl<T> Emptier<Object<T>> for Taken<T> {
+    #[inline(always)]
+    fn empty(&mut self, object: &mut Object<T>) {
+        self.0 = object.body.take();
+    }
 
-/// What the call took out: none or one, since a call clears one place at most.
-///
-/// # Safety
-///
-/// All calls of this thread since the last `taken` or `all_taken` were of pools of `T`.
-#[inline(always)]
-pub(crate) unsafe fn taken<T>() -> Option<Block<T>> {
-    let body = NonNull::new(TAKEN.replace(ptr::null_mut()).cast())?;
-    // SAFETY: `Object<T>::unhook` alone puts something there.
-    Some(unsafe { Block::from_body(body) })
-}
-
-/// What a close took out.
-///
-/// # Safety
-///
-/// As of `taken`.
-pub(crate) unsafe fn all_taken<T>() -> Chain<T> {
-    let first = TAKEN.with(|taken| taken.replace(ptr::null_mut()));
-    // SAFETY: as above; and each is put in front of the others.
-    unsafe { Chain::of(first.cast()) }
+    #[inline(always)]
+    fn retire(&mut self, mut object: Object<T>) {
+        self.empty(&mut object);
+    }
 }
 
 /// What the proved pool takes for its object: a block, or none where the place is empty. No code of `T` runs in its calls.
@@ -81,19 +75,6 @@ impl<T> Object<T> {
         // SAFETY: the caller's.
         address(unsafe { self.body.unwrap_unchecked() })
     }
-
-    /// The block goes to those that the call took out.
-    #[inline]
-    fn unhook(&mut self) {
-        if let Some(body) = self.body.take() {
-            sync::writes(body.as_ptr(), BODY);
-            TAKEN.with(|taken| {
-                // SAFETY: the body is ours alone.
-                unsafe { (*body.as_ptr()).next = taken.get().cast() };
-                taken.set(body.as_ptr().cast());
-            });
-        }
-    }
 }
 
 impl<T> slotcell::Clear for Object<T> {
@@ -108,9 +89,10 @@ impl<T> slotcell::Clear for Object<T> {
         }
     }
 
+    // (An `Emptier` takes the block out; without one it would be its chunk's alone.)
     #[inline]
     fn clear(&mut self) {
-        self.unhook();
+        self.body = None;
     }
 
     #[inline]
@@ -119,9 +101,13 @@ impl<T> slotcell::Clear for Object<T> {
     }
 }
 
+/// The block is its chunk's. A close finds it here.
 impl<T> Drop for Object<T> {
-    #[inline]
+    #[inline(always)]
     fn drop(&mut self) {
-        self.unhook();
+        if FINDS_LOST {
+            let taken = Taken(self.body.take());
+            taken.into_block().into_iter().for_each(Block::find);
+        }
     }
 }

@@ -69,10 +69,14 @@ impl<T> Vec<T> {
         self.items.resize_with(length, make);
     }
 
-    /// Appends so many empty objects, for which there is room. `zeros` tells that each of their bytes is written, and 0: where zeros are
-    /// there, they aren't written.
+    /// Appends so many empty objects, for which there is room. Where zeros are there, and `zeros` tells that they are such objects, nothing is
+    /// written.
+    ///
+    /// # Safety
+    ///
+    /// With `zeros`, bytes that are all 0 are a value that `make` makes.
     #[inline]
-    pub(crate) fn push_fresh(
+    pub(crate) unsafe fn push_fresh(
         &mut self,
         count: impl TryInto<usize>,
         zeros: bool,
@@ -82,7 +86,7 @@ impl<T> Vec<T> {
         let length = self.items.len().saturating_add(count);
         assert!(length <= self.items.capacity(), "out of range");
         if zeros && self.clean {
-            // SAFETY: the memory is there, and zeroed, so that each item has the bytes of an empty object.
+            // SAFETY: the memory is there, and zeroed, so that each item is an empty object, as the caller says.
             unsafe { self.items.set_len(length) };
             return;
         }

@@ -60,6 +60,19 @@ fn rows_have_their_values() {
 }
 
 #[test]
+fn empty_objects_are_written_where_others_were() {
+    let mut row = Vec::with_capacity(Global, 2).unwrap();
+    // SAFETY: bytes that are all 0 are the number 0.
+    let push = |row: &mut Vec<u32>, count: usize| unsafe { row.push_fresh(count, true, || 0) };
+    push(&mut row, 2);
+    assert_eq!(*row, [0, 0]);
+    row[1] = 7;
+    assert_eq!(row.pop(), Some(7));
+    push(&mut row, 1);
+    assert_eq!(*row, [0, 0]);
+}
+
+#[test]
 fn a_vector_with_room_left_becomes_a_row_by_a_copy() {
     let mut row = Vec::with_capacity(Global, 9).expect("memory");
     row.push_alike(2, || 4u64);

@@ -35,7 +35,10 @@ impl<T: Clear> Directory<T> {
     /// A directory of so many places, each with an empty object. None where memory was refused.
     pub fn new(alloc: Global, count: usize) -> Option<Directory<T>> {
         let mut words = Vec::with_capacity(alloc, count).ok()?;
-        words.push_fresh(count, T::ZEROS, || T::fresh(alloc));
+        // SAFETY: it is `fresh` of which `ZEROS` tells.
+        unsafe {
+            words.push_fresh(count, T::ZEROS, || T::fresh(alloc));
+        }
         // SAFETY: what is asked here is proved in the source.
         let (mut row, lease) = (unsafe { reserve(&alloc, words) }).ok()?;
         Some(Directory {

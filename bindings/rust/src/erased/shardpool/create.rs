@@ -222,7 +222,10 @@ fn open_page<T: Clear>(lane: &mut Lane<T>) -> Result<(), CreateFault> {
 /// So many empty objects. None where memory was refused.
 fn fresh_objects<T: Clear>(alloc: Global, count: u32) -> Option<Vec<T>> {
     let mut objects = Vec::with_capacity(alloc, count as usize).ok()?;
-    objects.push_fresh(count, T::ZEROS, || T::fresh(alloc));
+    // SAFETY: it is `fresh` of which `ZEROS` tells.
+    unsafe {
+        objects.push_fresh(count, T::ZEROS, || T::fresh(alloc));
+    }
     Some(objects)
 }
 

@@ -5,9 +5,9 @@
 use crate::shim::{no_bytes, Gapless, Global, Vec};
 
 use crate::erased::freelists::{LocalFree, Pages};
-use crate::erased::keybits::{Shape, PAGE_NUMBERS};
+use crate::erased::keybits::{shard_of, Shape, PAGE_NUMBERS, SHARD_NUMBERS};
 use crate::erased::poolsteps::{
-    page_rows, Directory, Grid, Hand, Objects, PageRow, Slot, Spot, Tally, BYTES_APART,
+    Directory, Grid, Hand, Objects, Slot, Spot, Tally, BYTES_APART, SHARDS_APART,
 };
 use crate::erased::shardpool::closing::HandRow;
 use crate::erased::slotcell::Clear;
@@ -92,34 +92,47 @@ pub struct Lane<T: Clear> {
     pub(crate) behind: Apart,
 }
 
-/// Where the places of each page of a pool stand.
+/// Where the places of a pool stand: alike in each shard.
 pub(crate) struct Places {
     /// The shape of the pool.
     pub(crate) shape: Shape,
     /// Which pools have each place at the same number: those of this code.
     pub(crate) code: u32,
-    /// The rows of its pages.
-    pub(crate) rows: Vec<PageRow>,
+    /// How far the places of a shard stand from those of the next.
+    pub(crate) apart: u32,
+    /// Where each page begins among the places of its shard.
+    pub(crate) starts: Vec<u32>,
 }
 
 impl Places {
     /// The places of a pool of this shape. None where memory was refused.
     #[inline]
     pub(crate) fn of(alloc: Global, shape: &Shape) -> Option<Places> {
-        let rows = page_rows(alloc, shape)?;
+        let starts = page_starts(alloc, shape)?;
         Some(Places {
             shape: *shape,
             code: 32 * shape.first_page + shape.pages,
-            rows,
+            apart: shape.shard_places() + SHARDS_APART as u32,
+            starts,
         })
     }
 
-    /// Where a place of the pool stands, by the row of its page.
+    /// Where a place of the pool stands.
     #[inline]
     pub(crate) fn start(&self, place: u32) -> u32 {
-        let page = &self.rows[(place / PAGE_NUMBERS) as usize];
-        page.start + place % PAGE_NUMBERS
+        let page = place % SHARD_NUMBERS / PAGE_NUMBERS;
+        shard_of(place) * self.apart + self.starts[page as usize] + place % PAGE_NUMBERS
     }
+}
+
+/// Where each page begins among the places of its shard. None where memory was refused.
+#[inline]
+fn page_starts(alloc: Global, shape: &Shape) -> Option<Vec<u32>> {
+    let mut starts = Vec::with_capacity(alloc, shape.pages as usize).ok()?;
+    for page in 0..shape.pages {
+        starts.push_reserved(shape.index(page * PAGE_NUMBERS) as u32);
+    }
+    Some(starts)
 }
 
 /// So many bytes, at an end of what a lane writes in each call.

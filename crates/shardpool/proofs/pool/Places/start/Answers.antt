@@ -1,35 +1,54 @@
--- The row of its page tells where a place stands.
-use Rattle.std.proofs.Common.{◌≡◌, ◌+◌, ◌/◌, ◌%◌, ◌*◌, ◌<◌, length, sym, ap, subst, ◌∙◌, arith}
-use Rattle.keybits.proofs.ShapeLemmas.{shape_bounds}
+-- The start of its page tells where a place stands.
+use Rattle.std.proofs.Common.{◌≡◌, ◌+◌, ◌*◌, ◌/◌, ◌%◌, ◌<◌, ℕ, Fits, w32, length, slice_index_or, refl, sym, ap, subst, ◌∙◌, arith}
+use Rattle.keybits.specs.Places.{page_of}
+use Rattle.keybits.specs.Shapes.{page_start}
+use Rattle.keybits.proofs.ShapeLemmas.{is_place-parts}
 use Rattle.poolsteps.specs.Layout.{slot_start, slot_row}
-use Rattle.poolsteps.proofs.PageLemmas.{rows-length, row-found, place-found, row-spot}
-use Rattle.poolsteps.proofs.SlotLemmas.{in-row}
-use Rattle.shardpool.proofs.pool.Places.start.Goals.{After-index-page}
+use Rattle.poolsteps.proofs.SlotLemmas.{in-row, row-small}
+use Rattle.shardpool.proofs.free.Starts.{starts-length, start-at, start-is}
+use Rattle.shardpool.proofs.pool.Places.start.Goals.{After-index}
 use Rattle.shardpool.proofs.pool.Places.start.Goals as goal
 
--- the row of the place's page
-stands : (c : After-index-page) → c.index-page.result.now.start + c.args.place % 4096 ≡ slot_start c.args.self.now.shape c.args.place
+-- the start of the place's page
+begins : (c : After-index) → c.index.result.now ≡ page_start c.args.self.now.shape (page_of c.args.place)
+begins c =
+    let s = c.args.self.now in
+    let page : c.args.place % 65536 / 4096 ≡ page_of c.args.place = omega arith in
+    let below : page_of c.args.place < s.shape.pages = (is_place-parts s.shape c.args.place c.requires).1 in
+    c.index.ensures
+    ∙ ((λ i. slice_index_or (s.starts_are i) (page i) c.index.result.now) ∙ start-at s.shape s.shape.pages (page_of c.args.place) c.index.result.now below)
+
+stands : (c : After-index) → c.shard_of.result * c.args.self.now.apart + c.index.result.now + c.args.place % 4096 ≡ slot_start c.args.self.now.shape c.args.place
 stands c =
     let s = c.args.self.now in
-    let below : c.args.place / 4096 < length s.rows.items = omega (arith, ap length s.rows_are ∙ rows-length s.shape (16 * s.shape.lanes), (place-found s.shape c.args.place c.requires).0) in
-    row-spot s.shape c.args.place c.index-page.result.now c.requires
-    (row-found s.shape s.rows.items s.rows_are (c.args.place / 4096) c.index-page.result.now c.index-page.result.now below c.index-page.ensures)
+    ap (λ (shard : ℕ). shard * s.apart + c.index.result.now + c.args.place % 4096) c.shard_of.ensures
+    ∙ start-is s.shape c.args.place s.apart c.index.result.now s.apart_is (begins c)
 
-pub index-page-requires : goal.index-page-requires
-index-page-requires c =
+pub overflow_mul-result : goal.overflow_mul-result
+overflow_mul-result c =
     let s = c.args.self.now in
-    omega (arith, ap length s.rows_are ∙ rows-length s.shape (16 * s.shape.lanes), (place-found s.shape c.args.place c.requires).0)
+    let at = start-is s.shape c.args.place s.apart (page_start s.shape (page_of c.args.place)) s.apart_is refl in
+    let low = in-row s.shape c.args.place c.requires in
+    let small = row-small s.shape s.checked in
+    subst (λ (shard : ℕ). Fits w32 (shard * s.apart)) (sym c.shard_of.ensures) (omega (arith, at, low, small))
+
+pub index-requires : goal.index-requires
+index-requires c =
+    let s = c.args.self.now in
+    omega (arith, ap length s.starts_are ∙ starts-length s.shape s.shape.pages, (is_place-parts s.shape c.args.place c.requires).1)
 
 pub overflow_add-result : goal.overflow_add-result
 overflow_add-result c =
-    let z = c.args.self.now.shape in
-    let at = stands (goal.at.overflow_add-result c).After-index-page in
-    let low = in-row z c.args.place c.requires in
-    let bounds = shape_bounds z c.args.self.now.checked in
-    omega (arith, at, low, bounds.all, bounds.lanes)
+    let s = c.args.self.now in
+    omega (arith, stands (goal.at.overflow_add-result c).After-index, in-row s.shape c.args.place c.requires, row-small s.shape s.checked)
+
+pub overflow_add-result-2 : goal.overflow_add-result-2
+overflow_add-result-2 c =
+    let s = c.args.self.now in
+    omega (arith, stands (goal.at.overflow_add-result-2 c).After-index, in-row s.shape c.args.place c.requires, row-small s.shape s.checked)
 
 pub returns-clause-start : goal.returns-clause-start
-returns-clause-start c = stands (goal.at.returns-clause-start c).After-index-page
+returns-clause-start c = stands (goal.at.returns-clause-start c).After-index
 
 pub returns-clause-below : goal.returns-clause-below
 returns-clause-below c = subst (λ n. n < slot_row c.args.self.now.shape) (sym (returns-clause-start c)) (in-row c.args.self.now.shape c.args.place c.requires)

@@ -1,0 +1,31 @@
+-- Where the pages of a shard begin among its places, and where a place stands by that.
+use Rattle.std.proofs.Common.{◌≡◌, ℕ, zero, suc, ◌+◌, ◌*◌, ◌<◌, [], ◌∷◌, ◌++◌, length, slice_index_or, refl, ap, sym, ◌∙◌, arith}
+use Rattle.std.proofs.Math.Nat.{mul-add}
+use Rattle.std.proofs.lemmas.List.{length_push, get_or_push, get_or_append_left}
+use mathlib.Core.Logic.{dite}
+use native.Mathlib.Decide.{ℕ_discrete}
+use Rattle.keybits.specs.declared.shape.Shape.{Shape}
+use Rattle.keybits.specs.Places.{shard_of, page_of, slot_of}
+use Rattle.keybits.specs.Shapes.{page_start, shard_places}
+use Rattle.poolsteps.specs.Layout.{slot_start}
+use Rattle.shardpool.specs.Rows.{page_starts}
+
+pub starts-length : (z : Shape) (count : ℕ) → length (page_starts z count) ≡ count
+starts-length z zero = refl
+starts-length z (suc count) = omega (arith, length_push (page_starts z count) (page_start z count), starts-length z count)
+
+pub starts-more : (z : Shape) (count : ℕ) → page_starts z count ++ page_start z count ∷ [] ≡ page_starts z (count + 1)
+starts-more z count = let next : suc count ≡ count + 1 = omega arith in ap (page_starts z) next
+
+pub start-at : (z : Shape) (count page other : ℕ) → page < count → slice_index_or (page_starts z count) page other ≡ page_start z page
+start-at z zero page other below = absurd (omega arith)
+start-at z (suc count) page other below = dite (ℕ_discrete page count)
+    (λ last. get_or_push (page_starts z count) (page_start z count) other page (starts-length z count ∙ sym last) ∙ ap (page_start z) (sym last))
+    (λ earlier.
+    get_or_append_left (page_starts z count) (page_start z count ∷ []) other page (omega (arith, starts-length z count))
+    ∙ start-at z count page other (omega arith))
+
+-- a place stands behind the shards before its own, and behind the pages before its own
+pub start-is : (z : Shape) (place apart first : ℕ) → apart ≡ shard_places z + 22 → first ≡ page_start z (page_of place)
+    → shard_of place * apart + first + slot_of place ≡ slot_start z place
+start-is z place apart first wide begins = rw (wide, begins) (omega (arith, mul-add (shard_of place) (shard_places z) 22))
