@@ -95,7 +95,65 @@ pub fn all() -> Vec<Scenario> {
             [clear_and_give_back, |w| clear(w, 1)],
             cleared_once,
         ),
+        Scenario::new(
+            "plain-get-clear",
+            one_key,
+            [get_and_create, |w| clear(w, 1)],
+            cleared_once,
+        )
+        .plain(),
+        Scenario::new(
+            "plain-clear-create",
+            one_key_of_three,
+            [
+                |w| create(w, 0, 1),
+                |w| clear_unseen(w, 1, 0),
+                |w| get(w, 2),
+            ],
+            cleared_once,
+        )
+        .plain(),
+        Scenario::new(
+            "plain-return-take",
+            two_keys,
+            [|w| create(w, 0, 3), clear_both],
+            cleared_twice,
+        )
+        .plain(),
+        Scenario::new(
+            "plain-rounds",
+            two_keys,
+            [create_in_rounds, clear_in_rounds],
+            |world| {
+                assert!(world.settle() <= 4);
+            },
+        )
+        .plain(),
+        Scenario::new(
+            "plain-retire-create",
+            one_generation,
+            [|w| create(w, 0, 2), |w| clear_unseen(w, 1, 0)],
+            |world| {
+                assert_eq!(world.close().retired, 1);
+            },
+        )
+        .plain(),
+        Scenario::new(
+            "plain-retire",
+            last_generation_two,
+            [create_twice, clear_three_generations],
+            at_most_three,
+        )
+        .plain(),
     ]
+}
+
+fn one_generation() -> World {
+    let shape = Shape {
+        last_generation: 1,
+        ..shape(2, 4, 1)
+    };
+    lanes_in_hand(shape, 1)
 }
 
 fn last_generation_two() -> World {

@@ -1,13 +1,15 @@
 //! What scenarios share: an object whose accesses are looked at, and a pool with its lanes.
 use explorer::{reads, writes, Extent, Plan, Report, Work};
-use pardz::{Census, Clear, Key, Lane, Pool, Shape};
-use std::sync::atomic::{AtomicUsize, Ordering::SeqCst};
+use pardz::{Census, Clear, Key, Lane, Plain, Pool, Shape};
+use std::sync::atomic::{AtomicBool, AtomicUsize, Ordering::SeqCst};
 use std::sync::{Arc, Mutex};
 
 /// How many objects there are.
 static ALIVE: AtomicUsize = AtomicUsize::new(0);
 /// How many were emptied since the schedule began.
 static EMPTIED: AtomicUsize = AtomicUsize::new(0);
+/// Whether the crate may empty them within its calls, as it does its own.
+static PLAIN: AtomicBool = AtomicBool::new(false);
 
 /// An object whose reads and writes the explorer looks at.
 #[derive(Debug)]
@@ -38,6 +40,10 @@ impl Clear for Tracked {
     fn clear(&mut self) {
         self.set(0);
         EMPTIED.fetch_add(1, SeqCst);
+    }
+
+    fn plain() -> Plain {
+        Plain::of(PLAIN.load(SeqCst))
     }
 }
 
@@ -74,6 +80,8 @@ pub struct Scenario {
     left: usize,
     /// Whether memory is left that is of no object, as a payload that the crate forgets.
     forgets: bool,
+    /// Whether objects are emptied within the calls.
+    plain: bool,
     run: Box<dyn Fn(Plan<'_>, usize) -> Report>,
 }
 
@@ -102,6 +110,7 @@ impl Scenario {
             extent: Extent::All,
             left: 0,
             forgets: false,
+            plain: false,
             run: Box::new(run),
         }
     }
@@ -125,7 +134,16 @@ impl Scenario {
         }
     }
 
+    /// The crate empties the objects within its calls.
+    pub fn plain(self) -> Scenario {
+        Scenario {
+            plain: true,
+            ..self
+        }
+    }
+
     pub fn explore(&self, within: Within) -> Report {
+        PLAIN.store(self.plain, SeqCst);
         let plan = Plan {
             name: self.name,
             extent: self.extent,

@@ -52,6 +52,14 @@ pub trait Clear {
 #[derive(Clone, Copy)]
 pub struct Plain(pub(crate) bool);
 
+#[cfg(pardz_explore)]
+impl Plain {
+    /// For the objects of scenarios, of which no other code runs.
+    pub fn of(is_plain: bool) -> Plain {
+        Plain(is_plain)
+    }
+}
+
 /// Keeps its capacity.
 impl<T> Clear for Vec<T> {
     #[inline]

@@ -194,6 +194,8 @@ mod sync;
 
 pub use buffer::Buffer;
 pub use clear::Clear;
+#[cfg(pardz_explore)]
+pub use clear::Plain;
 pub use errors::{CreateError, KeyError, MemoryRefused, OpenError};
 pub use filling::{Filling, OwnedFilling, PoolFilling};
 pub use key::Key;

@@ -484,3 +484,28 @@ fn an_owned_cycle_takes_no_memory() {
     takes_none(|| cycle(false));
     takes_none(|| cycle(true));
 }
+
+/// A buffer that another lane clears comes home to the lane that made it, with its memory: also where that lane reads it last.
+#[test]
+fn what_another_lane_clears_comes_home() {
+    let shape = Shape {
+        lanes: 2,
+        ..Shape::default()
+    };
+    let pool = Pool::<Buffer>::open(shape).expect("memory for a pool");
+    let (maker, other) = (
+        pool.lane().expect("a lane"),
+        pool.lane().expect("a second lane"),
+    );
+    let cycle = |is_read: bool| {
+        let key =
+            maker.create_with(|buffer| buffer.append(&[7; 64]).expect("memory for the bytes"));
+        let key = key.expect("a place");
+        let reader = is_read.then(|| other.get(key).expect("published"));
+        assert!(other.clear(key));
+        drop(reader);
+    };
+    let rounds = || (0..200).for_each(|round| cycle(round % 2 == 0));
+    rounds();
+    takes_none(rounds);
+}

@@ -20,8 +20,9 @@ impl<'s, T: Clear, P: Stands<'s, T>> Turn<'s, T, P> {
     ) -> Option<Block<T>> {
         // SAFETY: the caller's.
         let key = unsafe { self.publish(begun) };
+        self.clear(key);
         // (None where somebody guessed the key, and has a reference.)
-        let block = self.clear(key).1?;
+        let block = self.taken()?;
         if !is_empty {
             return Some(block);
         }

@@ -10,7 +10,7 @@
 //! | `publish`, `downgrade` | that the lane made the filling, and hasn't published it (`Made`) | a [`Begun`](token::Begun), which has the lane's seat, and is spent by the call |
 //! | `release`, `read` | that the lane has a reference to the key | a [`Held`](token::Held), likewise |
 //! | `close` | all lanes of the pool, each once | `Segment::end` takes the seats as `open` gave them; that the pool is ours alone then is told by `&mut`, for a lane in hand borrows it, or has a share of it, and by `Room::shares`, for a lane of owned handles has a share of its memory |
-//! | the emptier of objects | that it empties, keeps the room, takes no memory and ends | `Taken`, which takes one word out |
+//! | the emptier of objects | that it empties, keeps the room, takes no memory and ends | [`Emptying`](emptying::Emptying), which takes a block out, or runs this crate's `clear` and std's |
 //! | (a block of a lane) | that its chunk is there for as long as the block is anywhere (`Block::begin`) | no block leaves its segment, whose chunks go at its close; what a call gave borrows the pool or has a share of its room, so that the close comes behind |
 //!
 //! A get or a clear of a key that its segment [lacks](segment::Segment::lacks), as a load tells, makes no call.
@@ -18,6 +18,7 @@
 //! Outside of this module there are [`Hand`], a pool's [`Share`] of its [`Room`](room::Room), and what their calls give, all of which
 //! move: so that a filling is published once, and a reference is released once. None of its functions that are `pub(crate)` asks anything
 //! of its caller.
+mod emptying;
 mod far;
 mod give_back;
 mod in_hand;

@@ -3,7 +3,7 @@ use super::far::FarHeld;
 use super::give_back::give_back;
 use super::own::{too_many, Own};
 use super::room::Room;
-use super::seat::Post;
+use super::seat::{Near, Post};
 use super::segment::Segment;
 use super::threads;
 use super::token::{Begun, Held, OfThread, Spend, Spent};
@@ -186,14 +186,15 @@ impl<T: Clear> Room<T> {
         let Some(segment) = self.segment_with(key) else {
             return false;
         };
-        if key.shard() != own.post().number() {
-            return self.clear_of_other(segment, own, key);
-        }
         if !ptr::eq(own.post().segment(), segment) {
             return self.clear_elsewhere(segment, own, key);
         }
         // SAFETY: it is its segment.
-        unsafe { own.beside(segment) }.clear(key)
+        let own = unsafe { own.beside(segment) };
+        if self.is_of_shared(own, key) {
+            return self.clear_of_shared(segment, own, key);
+        }
+        own.clear(key)
     }
 
     /// A clear of the thread's own lane in another segment than it had a place last. (Apart, so that nothing leads back to the call's own
@@ -204,9 +205,20 @@ impl<T: Clear> Room<T> {
         let Some(own) = (unsafe { own.within(segment) }) else {
             return self.clear_by_shared(segment, key);
         };
-        // SAFETY: the thread keeps the lane of this seat.
-        unsafe { self.had_place(own.post()) };
+        if self.is_of_shared(own, key) {
+            return self.clear_of_shared(segment, own, key);
+        }
+        if key.shard() == own.post().number() {
+            // SAFETY: the thread keeps the lane of this seat.
+            unsafe { self.had_place(own.post()) };
+        }
         own.clear(key)
+    }
+
+    /// Whether a key is of a lane that threads share.
+    #[inline(always)]
+    fn is_of_shared<'s>(&self, own: Own<'s, T, Near<'s, T>>, key: Key) -> bool {
+        key.shard() != own.post().number() && self.lanes.is_shared(key.shard())
     }
 
     #[inline(never)]
@@ -227,26 +239,24 @@ impl<T: Clear> Room<T> {
         self.by_shared(segment, |post| post.shared_clear(key))
     }
 
-    /// A clear of a key of another lane. Where nobody has the lock of a shared lane, that clears its own key, so that its next create finds
-    /// the place at hand.
+    /// A clear of a shared lane's key: by that lane, where nobody has its lock, so that its next create finds the place at hand.
     #[inline(never)]
-    fn clear_of_other<'s>(&'s self, segment: &'s Segment<T>, own: Own<'s, T>, key: Key) -> bool {
+    fn clear_of_shared<'s>(
+        &'s self,
+        segment: &'s Segment<T>,
+        own: Own<'s, T, Near<'s, T>>,
+        key: Key,
+    ) -> bool {
         let shard = key.shard();
-        // SAFETY: it is of this pool.
-        let Some(own) = (unsafe { own.within(segment) }) else {
-            return self.clear_by_shared(segment, key);
+        let Some((cleared, taken)) = segment.post(shard).try_shared_clear(key) else {
+            return own.clear(key);
         };
-        if self.lanes.is_shared(shard) {
-            if let Some((cleared, taken)) = segment.post(shard).try_shared_clear(key) {
-                self.frees_place(key);
-                threads::set_last_shared(self.id(), shard);
-                if let Some(block) = taken {
-                    own.let_go_of_shared(block);
-                }
-                return cleared;
-            }
+        self.frees_place(key);
+        threads::set_last_shared(self.id(), shard);
+        if let Some(block) = taken {
+            own.let_go_of_shared(block);
         }
-        own.clear(key)
+        cleared
     }
 }
 

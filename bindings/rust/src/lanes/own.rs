@@ -3,7 +3,7 @@ use super::room::Room;
 use super::seat::{Near, Post, Stands};
 use super::segment::Segment;
 use super::token::{Begun, By, Held};
-use super::turn::{with_new, with_page, Missed, Short, Turn};
+use super::turn::{with_new, with_page, Short, TooMany, Turn};
 use crate::clear::Clear;
 use crate::errors::CreateError;
 use crate::key::Key;
@@ -58,13 +58,21 @@ impl<'s, T: Clear, P: Stands<'s, T>> Own<'s, T, P> {
         self.at.segment().room()
     }
 
+    /// Empties what the last call took out, if it was the last to let go of an object. Calls that are made meanwhile, by `T::clear`,
+    /// leave theirs to this one.
+    #[inline(always)]
+    fn finish(self) {
+        if let Some(block) = self.turn().taken() {
+            self.let_go(block);
+        }
+    }
+
     /// The place of a filling that isn't published is back for the close.
     pub(super) fn leave(self, start: u64) {
         self.turn().leave(start);
     }
 
-    /// Empties an object that a call took out of a place of this segment, as the last to let go of it. Calls that are made meanwhile, by
-    /// `T::clear`, leave theirs to this one.
+    /// Empties an object that was taken out of a place of this segment.
     #[inline(always)]
     pub(super) fn let_go(self, mut block: Block<T>) {
         if T::plain().0 {
@@ -110,17 +118,18 @@ impl<'s, T: Clear, P: Stands<'s, T>> Own<'s, T, P> {
         None
     }
 
-    /// Empties what a get or a release took out, if it did, which is rare.
+    /// The same where that is rare.
     #[inline(always)]
-    fn let_go_rare(self, taken: Option<Block<T>>) {
+    fn finish_rare(self) {
         #[cold]
         #[inline(never)]
-        fn let_go<T: Clear>(post: Post<'_, T>, block: Block<T>) {
+        fn finish<T: Clear>(post: Post<'_, T>) {
             // SAFETY: the thread has the lane alone.
-            unsafe { Own::of(post) }.let_go(block);
+            let own = unsafe { Own::of(post) };
+            own.finish();
         }
-        if let Some(block) = taken {
-            let_go(self.post(), block);
+        if self.turn().has_taken() {
+            finish(self.post());
         }
     }
 
@@ -256,22 +265,20 @@ impl<'s, T: Clear, P: Stands<'s, T>> Own<'s, T, P> {
     #[inline(always)]
     pub(super) fn get<W: By<T>>(self, key: Key) -> Option<Held<'s, T, W>> {
         match self.turn().get(key) {
-            Ok(held) => Some(held),
-            Err(Missed::Gone(taken)) => {
-                self.let_go_rare(taken);
+            Ok(Some(held)) => Some(held),
+            Ok(None) => {
+                self.finish_rare();
                 None
             }
-            Err(Missed::TooMany) => too_many(),
+            Err(TooMany) => too_many(),
         }
     }
 
     /// A clear of this segment.
     #[inline(always)]
     pub(super) fn clear(self, key: Key) -> bool {
-        let (cleared, taken) = self.turn().clear(key);
-        if let Some(block) = taken {
-            self.let_go(block);
-        }
+        let cleared = self.turn().clear(key);
+        self.finish();
         cleared
     }
 
@@ -342,8 +349,8 @@ impl<'s, T: Clear, P: Stands<'s, T>> Own<'s, T, P> {
     #[inline(always)]
     pub(super) unsafe fn release<W>(self, held: Held<'s, T, W>) {
         // SAFETY: the caller's.
-        let taken = unsafe { self.turn().release(held) };
-        self.let_go_rare(taken);
+        unsafe { self.turn().release(held) };
+        self.finish_rare();
     }
 }
 

@@ -35,6 +35,8 @@ pub(super) struct Seat<T: Clear> {
 pub(super) struct Store<T> {
     /// With an empty object. The one that was used last goes first, so that those in use stay warm.
     pub(super) spare: Chain<T>,
+    /// What the call under way took out of a place: one block at most, and none between calls.
+    pub(super) taken: Chain<T>,
     /// With an object that is to be emptied.
     pub(super) used: Chain<T>,
     /// Whether one is being emptied, by a call further out on the stack.
@@ -93,6 +95,7 @@ impl<T: Clear> Seat<T> {
             lane: UnsafeCell::new(ManuallyDrop::new(lane)),
             store: UnsafeCell::new(Store {
                 spare: Chain::new(),
+                taken: Chain::new(),
                 used: Chain::new(),
                 empties: false,
                 carried: Chain::new(),

@@ -4,7 +4,7 @@ use super::own::too_many;
 use super::seat::{Joint, Post};
 use super::segment::Segment;
 use super::token::{Begun, By, Far, Held, OfThread};
-use super::turn::{with_new, with_page, Missed, Short, Turn};
+use super::turn::{with_new, with_page, Short, TooMany, Turn};
 use crate::clear::Clear;
 use crate::errors::CreateError;
 use crate::key::Key;
@@ -25,38 +25,12 @@ pub(super) struct Taken<T: Clear> {
     block: Block<T>,
 }
 
-impl<T: Clear> Taken<T> {
-    /// What a call took out, which is a user of the lane from now on; if it isn't put away here.
-    #[inline(always)]
-    fn of(block: Option<Block<T>>, turn: &mut Turn<'_, T>, joint: &mut Joint) -> Option<Taken<T>> {
-        let block = not_plain(block?, turn)?;
-        joint.come();
-        Some(Taken { block })
-    }
-}
-
-/// What a call took out, where code of others may run as it is emptied. Else that is done here, under the lock, and the block put away.
+/// What the last call took out, which is a user of the lane from now on.
 #[inline(always)]
-fn not_plain<T: Clear>(mut block: Block<T>, turn: &mut Turn<'_, T>) -> Option<Block<T>> {
-    if !T::plain().0 {
-        return Some(block);
-    }
-    block.clear();
-    turn.put_away(block);
-    None
-}
-
-/// A get under the lock.
-#[inline(always)]
-fn get<'s, T: Clear, W: By<T>>(
-    turn: &mut Turn<'s, T>,
-    joint: &mut Joint,
-    key: Key,
-) -> Result<Held<'s, T, W>, Missed<Taken<T>>> {
-    turn.get(key).map_err(|missed| match missed {
-        Missed::Gone(block) => Missed::Gone(Taken::of(block, turn, joint)),
-        Missed::TooMany => Missed::TooMany,
-    })
+fn taken<T: Clear>(turn: &mut Turn<'_, T>, joint: &mut Joint) -> Option<Taken<T>> {
+    let block = turn.taken()?;
+    joint.come();
+    Some(Taken { block })
 }
 
 /// A create of a lane with a place on its own list.
@@ -169,38 +143,27 @@ impl<'s, T: Clear> Post<'s, T> {
         key: Key,
         come: impl Fn(&mut Joint),
     ) -> Result<Option<Held<'s, T, W>>, NotShared> {
-        let got = self.shared(|turn, joint| {
-            let got = get(turn, joint, key);
-            if got.is_ok() {
+        let got = self.shared(|turn, joint| match turn.get(key) {
+            Ok(Some(held)) => {
                 come(joint);
+                Ok(Ok(held))
             }
-            got
+            Ok(None) => Ok(Err(taken(turn, joint))),
+            Err(TooMany) => Err(TooMany),
         });
-        Ok(self.finish_get(got.ok_or(NotShared)?))
-    }
-
-    /// What a get gave; or what it took out is emptied, without the lock.
-    #[inline(always)]
-    fn finish_get<W: By<T>>(
-        self,
-        got: Result<Held<'s, T, W>, Missed<Taken<T>>>,
-    ) -> Option<Held<'s, T, W>> {
-        match got {
-            Ok(held) => Some(held.shared()),
-            Err(Missed::Gone(taken)) => {
+        match got.ok_or(NotShared)? {
+            Ok(Ok(held)) => Ok(Some(held.shared())),
+            Ok(Err(taken)) => {
                 self.finish(taken);
-                None
+                Ok(None)
             }
-            Err(Missed::TooMany) => too_many(),
+            Err(TooMany) => too_many(),
         }
     }
 
     /// A clear of this segment.
     pub(super) fn shared_clear(self, key: Key) -> Result<bool, NotShared> {
-        let cleared = self.shared(|turn, joint| {
-            let (cleared, block) = turn.clear(key);
-            (cleared, Taken::of(block, turn, joint))
-        });
+        let cleared = self.shared(|turn, joint| (turn.clear(key), taken(turn, joint)));
         let (cleared, taken) = cleared.ok_or(NotShared)?;
         self.finish(taken);
         Ok(cleared)
@@ -208,10 +171,7 @@ impl<'s, T: Clear> Post<'s, T> {
 
     /// The same, where nobody has the lock now: it doesn't wait. What comes back is to be emptied by the caller.
     pub(super) fn try_shared_clear(self, key: Key) -> Option<(bool, Option<Block<T>>)> {
-        self.try_shared(|turn, _| {
-            let (cleared, block) = turn.clear(key);
-            (cleared, block.and_then(|block| not_plain(block, turn)))
-        })
+        self.try_shared(|turn, _| (turn.clear(key), turn.taken()))
     }
 
     /// Empties what a call took out, without the lock.
@@ -263,7 +223,21 @@ impl<'s, T: Clear> Post<'s, T> {
     /// No thread has the lane alone.
     pub(super) unsafe fn locked_get(self, key: Key) -> Option<Held<'s, T, OfThread>> {
         // SAFETY: the caller's.
-        self.finish_get(unsafe { self.locked(|turn, joint| get(turn, joint, key)) })
+        let got = unsafe {
+            self.locked(|turn, joint| match turn.get(key) {
+                Ok(Some(held)) => Ok(Ok(held)),
+                Ok(None) => Ok(Err(taken(turn, joint))),
+                Err(TooMany) => Err(TooMany),
+            })
+        };
+        match got {
+            Ok(Ok(held)) => Some(held.shared()),
+            Ok(Err(taken)) => {
+                self.finish(taken);
+                None
+            }
+            Err(TooMany) => too_many(),
+        }
     }
 
     /// Gives a reference back.
@@ -275,8 +249,8 @@ impl<'s, T: Clear> Post<'s, T> {
         // SAFETY: the caller's.
         let taken = unsafe {
             self.locked(|turn, joint| {
-                let block = turn.release(held);
-                Taken::of(block, turn, joint)
+                turn.release(held);
+                taken(turn, joint)
             })
         };
         self.finish(taken);
@@ -295,8 +269,8 @@ impl<T: Clear> Post<'_, T> {
         // SAFETY: the lane of a handle is shared. The rest is the caller's.
         let (taken, is_last) = unsafe {
             self.locked(|turn, joint| {
-                let block = turn.release(held);
-                let taken = block.and_then(|block| not_plain(block, turn));
+                turn.release(held);
+                let taken = turn.taken();
                 let is_last = taken.is_none() && joint.leave();
                 (taken, is_last)
             })

@@ -1,4 +1,5 @@
 //! The calls of the proved pool. None runs code of `T`: what a call takes out of a place comes back as a block.
+use super::emptying::{left, Emptying};
 use super::seat::{Post, Stands, Store};
 use super::token::{Begun, By, Held};
 use super::{ProvedFilling, ProvedLane, ProvedPool, ProvedRef};
@@ -7,7 +8,7 @@ use crate::erased::poolsteps::{stack_word, Whole};
 use crate::erased::shardpool::{self, CreateFault, MOST_REFERENCES};
 use crate::errors::{CreateError, MemoryRefused};
 use crate::key::Key;
-use crate::object::{Block, Chain, Chunk, Crowded, Object, Taken};
+use crate::object::{Block, Chain, Chunk, Crowded, Object};
 use crate::shim::{Global, Ready};
 use crate::sync::{self, AtomicU32, Ordering};
 use std::marker::PhantomData;
@@ -39,13 +40,8 @@ fn cell<T>() -> Whole<Object<T>> {
     unsafe { NonNull::<Whole<Object<T>>>::dangling().as_ptr().read() }
 }
 
-/// Why a get gives nothing.
-pub(super) enum Missed<B> {
-    /// The key isn't there. What the get took out of the place that it reclaimed, if it was the last to leave that.
-    Gone(Option<B>),
-    /// The lane has as many references as it may.
-    TooMany,
-}
+/// The lane has as many references as it may.
+pub(super) struct TooMany;
 
 /// What a create without memory of its own needs.
 pub(super) enum Short<T> {
@@ -146,7 +142,7 @@ impl<'s, T: Clear, P: Stands<'s, T>> Turn<'s, T, P> {
     }
 
     #[inline(always)]
-    fn post(&self) -> Post<'s, T> {
+    pub(super) fn post(&self) -> Post<'s, T> {
         self.at.post()
     }
 
@@ -157,6 +153,13 @@ impl<'s, T: Clear, P: Stands<'s, T>> Turn<'s, T, P> {
         // SAFETY: this thread alone uses the lane, by this turn.
         let lane = unsafe { &mut *self.post().seat().lane.get() };
         (self.at.segment().proved(), lane, Call)
+    }
+
+    /// Who empties what one call takes out of a place.
+    #[inline(always)]
+    fn emptier(&mut self) -> Emptying<'s, T, P> {
+        // SAFETY: within a call of this turn it turns to the lane's blocks alone, of which the call doesn't know.
+        Emptying::by(unsafe { Turn::of(self.at) })
     }
 
     /// The lane.
@@ -233,6 +236,21 @@ impl<'s, T: Clear, P: Stands<'s, T>> Turn<'s, T, P> {
     ) -> Result<Block<T>, Crowded<T>> {
         let home = self.post().number();
         self.store().chunks.put(home, object, chunk)
+    }
+
+    /// What the last call took out of a place, for code of others to empty it.
+    #[inline(always)]
+    pub(super) fn taken(&mut self) -> Option<Block<T>> {
+        if T::plain().0 {
+            return None;
+        }
+        self.store().taken.pop()
+    }
+
+    /// Whether it took any out.
+    #[inline(always)]
+    pub(super) fn has_taken(&mut self) -> bool {
+        !T::plain().0 && !self.store().taken.is_empty()
     }
 
     /// A create of a lane with a place on its own list.
@@ -316,13 +334,17 @@ impl<'s, T: Clear, P: Stands<'s, T>> Turn<'s, T, P> {
         created: Result<ProvedFilling<T>, CreateFault>,
         block: Block<T>,
     ) -> Result<Begun<'s, T, W>, CreateError> {
-        let (key, start, _) = match created {
-            Ok(proved) => proved.spend(),
+        let mut proved = match created {
+            Ok(proved) => proved,
             Err(fault) => {
                 self.put_away(block);
                 return Err(fault.into());
             }
         };
+        if let Some(left) = left(&mut proved) {
+            self.put_away(left);
+        }
+        let (key, start, _) = proved.spend();
         add(&self.post().seat().fillings, 1);
         Ok(Begun::new(
             self.post(),
@@ -387,47 +409,46 @@ impl<'s, T: Clear, P: Stands<'s, T>> Turn<'s, T, P> {
 
     /// A get of this segment.
     #[inline(always)]
-    pub(super) fn get<W: By<T>>(&mut self, key: Key) -> Result<Held<'s, T, W>, Missed<Block<T>>> {
+    pub(super) fn get<W: By<T>>(&mut self, key: Key) -> Result<Option<Held<'s, T, W>>, TooMany> {
         if self.references() >= MOST_REFERENCES {
-            return Err(Missed::TooMany);
+            return Err(TooMany);
         }
-        let mut taken = Taken::none();
+        let mut emptier = self.emptier();
         let (pool, lane, call) = self.proved();
-        let Some(proved) = pool.get_with(lane, u64::from(key), &mut taken) else {
+        let Some(proved) = pool.get_with(lane, u64::from(key), &mut emptier) else {
             call.end();
-            return Err(Missed::Gone(taken.into_block()));
+            return Ok(None);
         };
         // SAFETY: the lane has a reference to the key, so a publish of this file put the object there.
         let object = unsafe { lane.read(&proved).address() };
         call.end();
         let place = (key, proved.start);
         let way = W::of(self.at.segment());
-        Ok(Held::new(self.post(), place, object, way))
+        Ok(Some(Held::new(self.post(), place, object, way)))
     }
 
-    /// Gives a reference back. What it took out of the place that it reclaimed.
+    /// Gives a reference back.
     ///
     /// # Safety
     ///
     /// It is of this lane.
     #[inline(always)]
-    pub(super) unsafe fn release<W>(&mut self, held: Held<'_, T, W>) -> Option<Block<T>> {
+    pub(super) unsafe fn release<W>(&mut self, held: Held<'_, T, W>) {
         let (key, start) = held.into_proved();
-        let mut taken = Taken::none();
+        let mut emptier = self.emptier();
         let (pool, lane, call) = self.proved();
         let proved = ProvedRef::to(key, start, &lane.state.places);
-        pool.release_with(lane, proved, &mut taken);
+        pool.release_with(lane, proved, &mut emptier);
         call.end();
-        taken.into_block()
     }
 
-    /// A clear of this segment: whether it marked the key, and what it took out of the place that it reclaimed.
+    /// A clear of this segment.
     #[inline(always)]
-    pub(super) fn clear(&mut self, key: Key) -> (bool, Option<Block<T>>) {
-        let mut taken = Taken::none();
+    pub(super) fn clear(&mut self, key: Key) -> bool {
+        let mut emptier = self.emptier();
         let (pool, lane, call) = self.proved();
-        let cleared = pool.clear_with(lane, u64::from(key), &mut taken);
+        let cleared = pool.clear_with(lane, u64::from(key), &mut emptier);
         call.end();
-        (cleared, taken.into_block())
+        cleared
     }
 }

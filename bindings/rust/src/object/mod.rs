@@ -8,60 +8,40 @@ pub(crate) use block::{Block, Chain, Returned, FINDS_LOST};
 pub(crate) use chunk::{Chunk, Chunks, Crowded};
 pub(crate) use memory::{Counted, Fixed, Later};
 
-use crate::erased::shardpool::Emptier;
+use crate::clear::Clear;
 use crate::erased::slotcell;
 use crate::shim::Global;
-use block::{address, Body};
-use std::marker::PhantomData;
+use std::mem::{self, ManuallyDrop};
 use std::ptr::NonNull;
-
-/// What a proved call took out of the place that it reclaimed: a block, or none. (A call reclaims one place at most.)
-pub(crate) struct Taken<T>(Option<NonNull<Body<T>>>);
-
-impl<T> Taken<T> {
-    #[inline(always)]
-    pub(crate) fn none() -> Taken<T> {
-        Taken(None)
-    }
-
-    /// The block. (Where it isn't asked for, its chunk alone has it until the close: so a call that took nothing out has nothing to drop.)
-    #[inline(always)]
-    pub(crate) fn into_block(self) -> Option<Block<T>> {
-        // SAFETY: an object had the body, which `hook` took out of a block, and has it no more.
-        self.0.map(|body| unsafe { Block::from_body(body) })
-    }
-}
-
-/// Empties an object of its block, so that no code of `T` runs in the call.
-impl<T> Emptier<Object<T>> for Taken<T> {
-    #[inline(always)]
-    fn empty(&mut self, object: &mut Object<T>) {
-        self.0 = object.body.take();
-    }
-
-    #[inline(always)]
-    fn retire(&mut self, mut object: Object<T>) {
-        self.empty(&mut object);
-    }
-}
 
 /// What the proved pool takes for its object: a block, or none where the place is empty. No code of `T` runs in its calls.
 pub(crate) struct Object<T> {
-    body: Option<NonNull<Body<T>>>,
-    owns: PhantomData<Body<T>>,
+    block: ManuallyDrop<Option<Block<T>>>,
 }
-
-// SAFETY: an object owns its block as a `Box<T>`.
-unsafe impl<T: Send> Send for Object<T> {}
-// SAFETY: as above.
-unsafe impl<T: Sync> Sync for Object<T> {}
 
 impl<T> Object<T> {
     /// Puts a block into an object that has none.
     #[inline]
     pub(crate) fn hook(&mut self, block: Block<T>) {
-        debug_assert!(self.body.is_none());
-        self.body = Some(block.into_body());
+        debug_assert!(self.block.is_none());
+        *self.block = Some(block);
+    }
+
+    /// Takes its block out.
+    #[inline]
+    pub(crate) fn unhook(&mut self) -> Option<Block<T>> {
+        self.block.take()
+    }
+
+    /// Empties its block, which stays. The lane whose it is, if there is one.
+    #[inline(always)]
+    pub(crate) fn empty_block(&mut self) -> Option<u32>
+    where
+        T: Clear,
+    {
+        let block = self.block.as_mut()?;
+        block.clear();
+        Some(block.home())
     }
 
     /// Where the object stands.
@@ -71,9 +51,9 @@ impl<T> Object<T> {
     /// It has a block: its place is published, and a publish puts one there.
     #[inline(always)]
     pub(crate) unsafe fn address(&self) -> NonNull<T> {
-        debug_assert!(self.body.is_some());
+        debug_assert!(self.block.is_some());
         // SAFETY: the caller's.
-        address(unsafe { self.body.unwrap_unchecked() })
+        unsafe { self.block.as_ref().unwrap_unchecked() }.address()
     }
 }
 
@@ -84,15 +64,14 @@ impl<T> slotcell::Clear for Object<T> {
     #[inline]
     fn fresh(_: Global) -> Object<T> {
         Object {
-            body: None,
-            owns: PhantomData,
+            block: ManuallyDrop::new(None),
         }
     }
 
-    // (An `Emptier` takes the block out; without one it would be its chunk's alone.)
+    // (No call comes here: who empties is an `Emptier`. The block would be its chunk's alone.)
     #[inline]
     fn clear(&mut self) {
-        self.body = None;
+        mem::forget(self.unhook());
     }
 
     #[inline]
@@ -101,13 +80,12 @@ impl<T> slotcell::Clear for Object<T> {
     }
 }
 
-/// The block is its chunk's. A close finds it here.
+/// The block is its chunk's. Where it is looked for, a close finds it here.
 impl<T> Drop for Object<T> {
     #[inline(always)]
     fn drop(&mut self) {
         if FINDS_LOST {
-            let taken = Taken(self.body.take());
-            taken.into_block().into_iter().for_each(Block::find);
+            self.unhook().into_iter().for_each(Block::find);
         }
     }
 }

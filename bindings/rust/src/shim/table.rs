@@ -4,7 +4,7 @@ use super::check;
 use super::heap::{free, zeroed, AllocError, Global};
 use super::rows::{Slots, Vec};
 use crate::sync::AtomicU64;
-use crate::sync::Ordering::{Relaxed, SeqCst};
+use crate::sync::Ordering::{Relaxed, Release, SeqCst};
 use std::marker::PhantomData;
 use std::mem::{self, ManuallyDrop};
 use std::ptr;
@@ -69,12 +69,13 @@ impl<S> Shared<S> {
         step!(Load, index, 0, 0, self.word(index).load(SeqCst))
     }
 
+    /// (A release is enough: the sources store links alone, which the same thread's push follows, and whoever reads one has seen that push.)
     #[inline(always)]
     pub(crate) fn store(&self, _: &mut Seat<S>, index: usize, value: u64) {
         #[cfg(pardz_trace)]
         step!(Store, index, 0, value, self.word(index).swap(value, SeqCst));
         #[cfg(not(pardz_trace))]
-        self.word(index).store(value, SeqCst);
+        self.word(index).store(value, Release);
     }
 
     #[inline(always)]
