@@ -22,7 +22,8 @@
 //! # What differs
 //!
 //! - **Places are used in turn**, the one that is free for longest first; sharded-slab takes the one that was freed last. So the low bits
-//!   of a new key say nothing of an earlier one. Memory is used again all the same: that of the object emptied last goes to the next.
+//!   of a new key say nothing of an earlier one. Memory is used again all the same: that of the object which the thread emptied last goes
+//!   to its next.
 //! - **A key is never found again** once it is cleared: a place whose generations are used up is retired. In sharded-slab they begin anew.
 //! - **One clear of a key alone answers yes.** While there are references, sharded-slab answers yes to each.
 //! - **What is being filled isn't cleared**: a clear of the key of a [`RefMut`] answers no, and does nothing. In sharded-slab it can empty
