@@ -467,6 +467,34 @@ fn a_thread_shares_where_more_lanes_find_no_memory() {
     assert_eq!(create_beside_hands(u32::MAX), (Ok(16), false));
 }
 
+/// A create where the places of the thread's lane and of the shared ones are in use, and one request is refused: the place that it had,
+/// and whether any was refused.
+fn create_where_all_is_full(granted: u32) -> (Result<u64, CreateError>, bool) {
+    let pool = Pool::<Buffer>::growing().expect("memory for a pool");
+    let create = || pool.create().map(|filling| filling.publish());
+    for _ in 0..5 * 32 {
+        create().expect("a place");
+    }
+    GRANTED.set(granted);
+    let created = tried(create).map(|key| u64::from(key) >> 16);
+    (created, REFUSED.get() > 0)
+}
+
+/// Where a further segment finds no memory, a lane that nobody has is shared.
+#[test]
+fn a_lane_at_home_is_shared_where_growth_finds_no_memory() {
+    let run = |granted| std::thread::spawn(move || create_where_all_is_full(granted)).join();
+    let ends = (0..).map(|granted| run(granted).expect("no panic"));
+    let refused: Vec<_> = ends.take_while(|(_, refused)| *refused).collect();
+    // (Of the first segment, by its tag, and its second lane.)
+    let shared = |(place, _): &&(Result<u64, CreateError>, bool)| matches!(place, Ok(place) if place & 0xff_0000_00ff == 1);
+    assert!(refused.iter().filter(shared).count() >= 30);
+    let others = refused.iter().filter(|end| !shared(end));
+    assert!(others
+        .map(|(place, _)| place)
+        .all(|place| *place == Err(CreateError::Memory)));
+}
+
 /// A buffer that is emptied under its lane's lock is used again, with its memory.
 #[test]
 fn an_owned_cycle_takes_no_memory() {

@@ -103,7 +103,7 @@ impl<T: Clear> Room<T> {
         }
     }
 
-    /// A create that finds all full looks again, and has the pool grow.
+    /// A create that finds all full looks again, and has the pool grow; or a lane shared that nobody has, where it can't.
     pub(super) fn create_growing<F>(
         &self,
         create: impl Fn() -> Result<F, CreateError>,
@@ -125,7 +125,7 @@ impl<T: Clear> Room<T> {
                 continue;
             }
             match self.grow(count) {
-                Err(CreateError::Full) if self.share_one() => (),
+                Err(CreateError::Full | CreateError::Memory) if self.share_one() => (),
                 grown => grown?,
             }
         }
