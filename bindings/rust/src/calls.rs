@@ -4,9 +4,10 @@
 //! pool open a segment with more. Where there are no more, where a segment hasn't the thread's lane, and for owned handles, a lane is
 //! shared: each call has it under a lock, within which no code of others runs, and what is held by it may be let go by any thread.
 use crate::clear::Clear;
-use crate::errors::CreateError;
+use crate::errors::{CreateError, GetError};
 use crate::filling::{OwnedFilling, PoolFilling};
 use crate::key::Key;
+use crate::lanes::Spent;
 use crate::pool::Pool;
 use crate::reference::{OwnedRef, PoolRef};
 
@@ -96,6 +97,23 @@ impl<T: Clear> Pool<T> {
         Some(PoolRef::new(self.room.get(key)?))
     }
 
+    /// As [`get`](Pool::get), but for what that panics at.
+    ///
+    /// # Errors
+    ///
+    /// [`GetError::References`] where the lane has 1,048,575 references; [`GetError::NoLane`] where all lanes of a pool of 64 are in hand.
+    ///
+    /// ```
+    /// let pool = pardz::Pool::<String>::growing()?;
+    /// let key = pool.put("abc")?;
+    /// assert_eq!(*pool.try_get(key)?.expect("published"), "abc");
+    /// # Ok::<(), Box<dyn std::error::Error>>(())
+    /// ```
+    pub fn try_get(&self, key: Key) -> Result<Option<PoolRef<'_, T>>, GetError> {
+        let held = self.room.try_get(key)?;
+        Ok(held.map(|held| PoolRef::new(Spent::new(held))))
+    }
+
     /// Clears a key: no get finds it any more. Answers whether this call did. The object stays for those who have a reference; the last
     /// of them empties it.
     ///
@@ -160,6 +178,17 @@ impl<T: Clear> Pool<T> {
     /// ```
     #[inline]
     pub fn get_owned(&self, key: Key) -> Option<OwnedRef<T>> {
-        Some(OwnedRef::new(self.room.get_owned(key)?))
+        self.try_get_owned(key).unwrap_or_else(GetError::raise)
+    }
+
+    /// As [`get_owned`](Pool::get_owned), but for what that panics at.
+    ///
+    /// # Errors
+    ///
+    /// [`GetError::References`] where the shared lane has 1,048,575 references; [`GetError::NoLane`] where all lanes of a pool of 64 are in
+    /// hand.
+    #[inline]
+    pub fn try_get_owned(&self, key: Key) -> Result<Option<OwnedRef<T>>, GetError> {
+        Ok(self.room.get_owned(key)?.map(OwnedRef::new))
     }
 }

@@ -40,6 +40,25 @@ pub enum CreateError {
     NoLane,
 }
 
+/// Why a get can't look, though the key may be published. Nothing is changed.
+#[derive(Clone, Copy, Debug, PartialEq, Eq)]
+#[non_exhaustive]
+pub enum GetError {
+    /// The lane has 1,048,575 references in the key's segment, the most.
+    References,
+    /// The call was made without a lane, and all 64 lanes of the pool are in hand.
+    NoLane,
+}
+
+impl GetError {
+    /// For calls that panic where they can't look.
+    #[cold]
+    #[inline(never)]
+    pub(crate) fn raise<R>(self) -> R {
+        panic!("{self}")
+    }
+}
+
 /// Memory was refused. What was to grow is as it was.
 #[derive(Clone, Copy, Debug, PartialEq, Eq)]
 pub struct MemoryRefused;
@@ -67,6 +86,15 @@ impl fmt::Display for CreateError {
     }
 }
 
+impl fmt::Display for GetError {
+    fn fmt(&self, f: &mut fmt::Formatter<'_>) -> fmt::Result {
+        f.write_str(match self {
+            GetError::References => "the lane has 1,048,575 references",
+            GetError::NoLane => "all lanes of the pool are in hand",
+        })
+    }
+}
+
 impl fmt::Display for MemoryRefused {
     fn fmt(&self, f: &mut fmt::Formatter<'_>) -> fmt::Result {
         f.write_str("memory was refused")
@@ -81,6 +109,7 @@ impl fmt::Display for KeyError {
 
 impl Error for OpenError {}
 impl Error for CreateError {}
+impl Error for GetError {}
 impl Error for MemoryRefused {}
 impl Error for KeyError {}
 

@@ -1,10 +1,10 @@
 //! Lanes in hand.
 use crate::buffer::Buffer;
 use crate::clear::Clear;
-use crate::errors::CreateError;
+use crate::errors::{CreateError, GetError};
 use crate::filling::Filling;
 use crate::key::Key;
-use crate::lanes::Hand;
+use crate::lanes::{Hand, Spent};
 use crate::pool::Pool;
 use crate::reference::Ref;
 use std::fmt;
@@ -116,6 +116,16 @@ impl<'p, T: Clear> Lane<'p, T> {
     #[inline(always)]
     pub fn get(&self, key: Key) -> Option<Ref<'_, T>> {
         Some(Ref::new(self.hand.get(key)?))
+    }
+
+    /// As [`get`](Lane::get), but for what that panics at.
+    ///
+    /// # Errors
+    ///
+    /// [`GetError::References`] where the lane has 1,048,575 references in the key's segment.
+    pub fn try_get(&self, key: Key) -> Result<Option<Ref<'_, T>>, GetError> {
+        let held = self.hand.try_get(key)?;
+        Ok(held.map(|held| Ref::new(Spent::new(held))))
     }
 
     /// Clears a key: no get finds it any more. Answers whether this call did: `false` where the key isn't published, or is cleared

@@ -196,7 +196,7 @@ pub use buffer::Buffer;
 pub use clear::Clear;
 #[cfg(pardz_explore)]
 pub use clear::Plain;
-pub use errors::{CreateError, KeyError, MemoryRefused, OpenError};
+pub use errors::{CreateError, GetError, KeyError, MemoryRefused, OpenError};
 pub use filling::{Filling, OwnedFilling, PoolFilling};
 pub use key::Key;
 pub use lane::Lane;

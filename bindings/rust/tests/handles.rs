@@ -1,5 +1,5 @@
 //! Objects that are used again, by all ways to call; a filling that is left; the limit of references where a filling is published.
-use pardz::{Buffer, Clear, Lane, Pool, Shape};
+use pardz::{Buffer, Clear, GetError, Lane, Pool, Shape};
 use std::mem;
 use std::panic::{self, AssertUnwindSafe};
 use std::sync::atomic::{AtomicUsize, Ordering::SeqCst};
@@ -124,7 +124,7 @@ fn with_all_references(lane: &Lane<'_, String>) {
 
 fn is_too_many<R>(call: impl FnOnce() -> R) -> bool {
     let payload = panic::catch_unwind(AssertUnwindSafe(|| mem::forget(call()))).unwrap_err();
-    payload.downcast_ref() == Some(&"the lane has 1,048,575 references")
+    payload.downcast_ref() == Some(&GetError::References.to_string())
 }
 
 #[test]
@@ -134,8 +134,11 @@ fn a_downgrade_has_a_limit() {
     with_all_references(&lane);
     let filling = lane.create().unwrap();
     assert!(is_too_many(|| filling.downgrade()));
+    let key = lane.put("b").unwrap();
+    assert_eq!(lane.try_get(key).err(), Some(GetError::References));
+    assert_eq!(lane.references() as usize, MOST_REFERENCES);
     drop(lane);
-    assert_eq!(pool.close().present, 1);
+    assert_eq!(pool.close().present, 2);
 }
 
 #[test]
@@ -149,6 +152,8 @@ fn a_downgrade_of_a_shared_lane_has_a_limit() {
     let (filling, owned) = (pool.create().unwrap(), pool.create_owned().unwrap());
     assert!(is_too_many(|| filling.downgrade()));
     assert!(is_too_many(|| owned.downgrade()));
+    assert_eq!(pool.try_get_owned(key).err(), Some(GetError::References));
+    assert_eq!(pool.try_get(key).err(), Some(GetError::References));
     drop(lane);
     let census = pool.census();
     assert_eq!((census.present, census.filling), (1, 0));

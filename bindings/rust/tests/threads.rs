@@ -2,7 +2,7 @@
 mod common;
 
 use common::{at_once, limit, lock};
-use pardz::{Clear, CreateError, Key, OwnedFilling, OwnedRef, Pool, PoolRef, Shape};
+use pardz::{Clear, CreateError, GetError, Key, OwnedFilling, OwnedRef, Pool, PoolRef, Shape};
 use std::cell::{Cell, RefCell};
 use std::panic::{catch_unwind, AssertUnwindSafe};
 use std::sync::atomic::{AtomicUsize, Ordering::SeqCst};
@@ -240,8 +240,12 @@ fn all_sixty_four_lanes_in_hand() {
     assert!(panics(&|| pool.clear(key)));
     assert!(panics(&|| pool.get(key).is_some()));
     assert!(panics(&|| pool.get_owned(key).is_some()));
+    assert_eq!(pool.try_get(key).err(), Some(GetError::NoLane));
+    assert_eq!(pool.try_get_owned(key).err(), Some(GetError::NoLane));
     lanes.pop();
+    assert_eq!(**pool.try_get(key).unwrap().as_ref().unwrap(), *"x");
     assert!(pool.clear(key));
+    assert!(pool.try_get(key).unwrap().is_none());
     assert!(pool.clear(pool.put("y").unwrap()));
     assert!(pool.lane().is_none(), "it is shared now");
 }

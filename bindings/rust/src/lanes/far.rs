@@ -1,10 +1,9 @@
 //! Owned handles: each is a user of a shared lane, which keeps the pool's memory as long as it has one.
-use super::own::too_many;
 use super::room::Room;
 use super::seat::{Joint, Post};
 use super::token::{Begun, Far, Held, Spend, Spent};
 use crate::clear::Clear;
-use crate::errors::CreateError;
+use crate::errors::{CreateError, GetError};
 use crate::key::Key;
 use crate::object::Block;
 use crate::sync::{AtomicPtr, AtomicUsize, Ordering};
@@ -47,11 +46,13 @@ impl<T: Clear> Room<T> {
     }
 
     #[inline]
-    pub(crate) fn get_owned(&self, key: Key) -> Option<FarHeld<T>> {
-        let segment = self.segment_with(key)?;
-        let held = self.by_shared(segment, |post| post.shared_get(key, Joint::come))?;
+    pub(crate) fn get_owned(&self, key: Key) -> Result<Option<FarHeld<T>>, GetError> {
+        let Some(segment) = self.segment_with(key) else {
+            return Ok(None);
+        };
+        let held = self.by_shared(segment, |post| post.shared_get(key, Joint::come))??;
         // SAFETY: the handle is a user of the lane.
-        Some(FarHeld::new(unsafe { held.far() }))
+        Ok(held.map(|held| FarHeld::new(unsafe { held.far() })))
     }
 }
 
@@ -118,7 +119,7 @@ impl<T: Clear> FarBegun<T> {
             Ok(held) => FarHeld::new(held),
             Err(begun) => {
                 begun.spend();
-                too_many()
+                GetError::References.raise()
             }
         }
     }

@@ -1,12 +1,12 @@
 //! Lanes in hand, and what they give: all of it borrows them, so that they have the lane alone.
 use super::give_back::give_back;
-use super::own::{too_many, Own};
+use super::own::Own;
 use super::seat::{Near, Post, Stands};
 use super::segment::Sight;
 use super::token::{Begun, By, Held, InHand, Spend, Spent};
 use super::who::Number;
 use crate::clear::Clear;
-use crate::errors::CreateError;
+use crate::errors::{CreateError, GetError};
 use crate::key::Key;
 use crate::object::Block;
 use crate::pool::Pool;
@@ -91,9 +91,8 @@ impl<'p, T: Clear> Hand<'p, T> {
             Sight::There => own.get(key).map(Spent::new),
             Sight::Gone => None,
             Sight::Foreign => {
-                let mut held = self.get_elsewhere(key)?;
                 // (Here, where the compiler sees that it is so of no other.)
-                held.way.is_elsewhere = true;
+                let held = self.get_elsewhere(key)?.of_elsewhere();
                 Some(Spent::new(held))
             }
         }
@@ -103,6 +102,15 @@ impl<'p, T: Clear> Hand<'p, T> {
     #[inline(never)]
     fn get_elsewhere(&self, key: Key) -> Option<Held<'_, T, InHand<T>>> {
         self.own_elsewhere(key)?.get(key)
+    }
+
+    /// A get of any segment.
+    pub(crate) fn try_get(&self, key: Key) -> Result<Option<Held<'_, T, InHand<T>>>, GetError> {
+        let Some(own) = self.own_elsewhere(key) else {
+            return Ok(None);
+        };
+        let held = own.try_get(key)?;
+        Ok(held.map(Held::of_elsewhere))
     }
 
     #[inline(always)]
@@ -205,7 +213,7 @@ impl<'l, T: Clear> Begun<'l, T, InHand<T>> {
             Ok(held) => Spent::new(held),
             Err(begun) => {
                 begun.spend();
-                too_many()
+                GetError::References.raise()
             }
         }
     }
@@ -241,6 +249,12 @@ fn give_back_in_hand<T: Clear>(post: Post<'_, T>, words: (Key, u64), block: Bloc
 }
 
 impl<'l, T: Clear> Held<'l, T, InHand<T>> {
+    /// It may be of another segment than that of the hand.
+    fn of_elsewhere(mut self) -> Self {
+        self.way.is_elsewhere = true;
+        self
+    }
+
     /// One reference more, by a get of the key.
     pub(crate) fn try_clone(&self) -> Option<Spent<Held<'l, T, InHand<T>>>> {
         // SAFETY: a hand gave it, and is borrowed.

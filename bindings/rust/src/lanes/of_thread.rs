@@ -1,7 +1,7 @@
 //! Calls of a pool, and what they give: by the thread's lane, or by lanes that threads share.
 use super::far::FarHeld;
 use super::give_back::give_back;
-use super::own::{too_many, Own};
+use super::own::Own;
 use super::room::Room;
 use super::seat::{Near, Post};
 use super::segment::Segment;
@@ -9,7 +9,7 @@ use super::threads;
 use super::token::{Begun, Held, OfThread, Spend, Spent};
 use super::who::Caller;
 use crate::clear::Clear;
-use crate::errors::CreateError;
+use crate::errors::{CreateError, GetError};
 use crate::key::Key;
 use crate::object::Block;
 use std::ptr::{self, NonNull};
@@ -157,19 +157,25 @@ impl<T: Clear> Room<T> {
 
     #[inline(never)]
     fn get_by_caller(&self, key: Key) -> Option<Held<'_, T, OfThread>> {
+        self.try_get(key).unwrap_or_else(GetError::raise)
+    }
+
+    pub(crate) fn try_get(&self, key: Key) -> Result<Option<Held<'_, T, OfThread>>, GetError> {
         if self.count() == 0 {
-            return None;
+            return Ok(None);
         }
         let caller = self.caller();
-        let segment = self.segment_with(key)?;
+        let Some(segment) = self.segment_with(key) else {
+            return Ok(None);
+        };
         let own = match caller {
             // SAFETY: it is of this pool.
             Caller::Own(own) => unsafe { own.within(segment) },
             Caller::Sharing => None,
         };
         match own {
-            Some(own) => own.get(key),
-            None => self.by_shared(segment, |post| post.shared_get(key, |_| ())),
+            Some(own) => own.try_get(key),
+            None => self.by_shared(segment, |post| post.shared_get(key, |_| ()))?,
         }
     }
 
@@ -236,7 +242,8 @@ impl<T: Clear> Room<T> {
     /// A clear by a shared lane.
     #[inline(never)]
     fn clear_by_shared(&self, segment: &Segment<T>, key: Key) -> bool {
-        self.by_shared(segment, |post| post.shared_clear(key))
+        let cleared = self.by_shared(segment, |post| post.shared_clear(key));
+        cleared.unwrap_or_else(GetError::raise)
     }
 
     /// A clear of a shared lane's key: by that lane, where nobody has its lock, so that its next create finds the place at hand.
@@ -297,7 +304,7 @@ impl<'p, T: Clear> Begun<'p, T, OfThread> {
             Ok(held) => Spent::new(held),
             Err(begun) => {
                 begun.spend();
-                too_many()
+                GetError::References.raise()
             }
         }
     }
@@ -344,16 +351,17 @@ impl<'p, T: Clear> Held<'p, T, OfThread> {
     /// One reference more, by a get of the key.
     pub(crate) fn try_clone(&self) -> Option<Spent<Held<'p, T, OfThread>>> {
         let held = match self.way() {
-            Way::Own(own) => own.get(self.key()),
+            Way::Own(own) => own.try_get(self.key()),
             // SAFETY: no thread has such a lane alone.
             Way::Shared(post) | Way::Left(post) => unsafe { post.locked_get(self.key()) },
         };
-        held.map(Spent::new)
+        held.unwrap_or_else(GetError::raise).map(Spent::new)
     }
 
     /// One more, for an owned handle, by a get of the key.
     pub(crate) fn get_owned(&self) -> Option<FarHeld<T>> {
-        self.post().segment().room().get_owned(self.key())
+        let held = self.post().segment().room().get_owned(self.key());
+        held.unwrap_or_else(GetError::raise)
     }
 }
 

@@ -3,9 +3,9 @@ use super::room::Room;
 use super::seat::{Near, Post, Stands};
 use super::segment::Segment;
 use super::token::{Begun, By, Held};
-use super::turn::{with_new, with_page, Short, TooMany, Turn};
+use super::turn::{with_new, with_page, Short, Turn};
 use crate::clear::Clear;
-use crate::errors::CreateError;
+use crate::errors::{CreateError, GetError};
 use crate::key::Key;
 use crate::object::Block;
 use std::marker::PhantomData;
@@ -270,8 +270,17 @@ impl<'s, T: Clear, P: Stands<'s, T>> Own<'s, T, P> {
                 self.finish_rare();
                 None
             }
-            Err(TooMany) => too_many(),
+            Err(error) => error.raise(),
         }
+    }
+
+    #[inline(always)]
+    pub(super) fn try_get<W: By<T>>(self, key: Key) -> Result<Option<Held<'s, T, W>>, GetError> {
+        let got = self.turn().get(key)?;
+        if got.is_none() {
+            self.finish_rare();
+        }
+        Ok(got)
     }
 
     /// A clear of this segment.
@@ -368,12 +377,6 @@ unsafe fn make<T: Clear + Default>(post: Post<'_, T>) -> Result<Block<T>, Create
     Ok(with_new(wanted, |object, chunk| {
         own.turn().put(object, chunk)
     })?)
-}
-
-#[cold]
-#[inline(never)]
-pub(super) fn too_many() -> ! {
-    panic!("the lane has 1,048,575 references")
 }
 
 /// Where an object's `clear` panicked: the others that wait are emptied all the same. A further panic loses its object alone.

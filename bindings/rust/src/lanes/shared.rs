@@ -1,12 +1,11 @@
 //! Calls of a lane that threads share, or that its thread has left: under its lock. None runs code of others meanwhile: what was taken out
 //! of a place comes back, and is emptied behind the lock; or within it, where this crate's code and std's alone does that.
-use super::own::too_many;
 use super::seat::{Joint, Post};
 use super::segment::Segment;
 use super::token::{Begun, By, Far, Held, OfThread};
-use super::turn::{with_new, with_page, Short, TooMany, Turn};
+use super::turn::{with_new, with_page, Short, Turn};
 use crate::clear::Clear;
-use crate::errors::CreateError;
+use crate::errors::{CreateError, GetError};
 use crate::key::Key;
 use crate::object::{Block, Chain};
 use crate::sync::thread_local;
@@ -31,6 +30,20 @@ fn taken<T: Clear>(turn: &mut Turn<'_, T>, joint: &mut Joint) -> Option<Taken<T>
     let block = turn.taken()?;
     joint.come();
     Some(Taken { block })
+}
+
+/// A reference; or what a get took out that gave none.
+type Got<'s, T, W> = Result<Held<'s, T, W>, Option<Taken<T>>>;
+
+/// A get under the lock.
+#[inline(always)]
+fn get<'s, T: Clear, W: By<T>>(
+    turn: &mut Turn<'s, T>,
+    joint: &mut Joint,
+    key: Key,
+) -> Result<Got<'s, T, W>, GetError> {
+    let held = turn.get(key)?;
+    Ok(held.ok_or_else(|| taken(turn, joint)))
 }
 
 /// A create of a lane with a place on its own list.
@@ -142,22 +155,27 @@ impl<'s, T: Clear> Post<'s, T> {
         self,
         key: Key,
         come: impl Fn(&mut Joint),
-    ) -> Result<Option<Held<'s, T, W>>, NotShared> {
-        let got = self.shared(|turn, joint| match turn.get(key) {
-            Ok(Some(held)) => {
+    ) -> Result<Result<Option<Held<'s, T, W>>, GetError>, NotShared> {
+        let got = self.shared(|turn, joint| {
+            let got = get(turn, joint, key)?;
+            if got.is_ok() {
                 come(joint);
-                Ok(Ok(held))
             }
-            Ok(None) => Ok(Err(taken(turn, joint))),
-            Err(TooMany) => Err(TooMany),
+            Ok(got)
         });
-        match got.ok_or(NotShared)? {
-            Ok(Ok(held)) => Ok(Some(held.shared())),
-            Ok(Err(taken)) => {
+        let got = got.ok_or(NotShared)?;
+        Ok(got.map(|got| self.finish_get(got)))
+    }
+
+    /// What a get gave; or what it took out is emptied, without the lock.
+    #[inline(always)]
+    fn finish_get<W: By<T>>(self, got: Got<'s, T, W>) -> Option<Held<'s, T, W>> {
+        match got {
+            Ok(held) => Some(held.shared()),
+            Err(taken) => {
                 self.finish(taken);
-                Ok(None)
+                None
             }
-            Err(TooMany) => too_many(),
         }
     }
 
@@ -221,23 +239,13 @@ impl<'s, T: Clear> Post<'s, T> {
     /// # Safety
     ///
     /// No thread has the lane alone.
-    pub(super) unsafe fn locked_get(self, key: Key) -> Option<Held<'s, T, OfThread>> {
+    pub(super) unsafe fn locked_get(
+        self,
+        key: Key,
+    ) -> Result<Option<Held<'s, T, OfThread>>, GetError> {
         // SAFETY: the caller's.
-        let got = unsafe {
-            self.locked(|turn, joint| match turn.get(key) {
-                Ok(Some(held)) => Ok(Ok(held)),
-                Ok(None) => Ok(Err(taken(turn, joint))),
-                Err(TooMany) => Err(TooMany),
-            })
-        };
-        match got {
-            Ok(Ok(held)) => Some(held.shared()),
-            Ok(Err(taken)) => {
-                self.finish(taken);
-                None
-            }
-            Err(TooMany) => too_many(),
-        }
+        let got = unsafe { self.locked(|turn, joint| get(turn, joint, key)) }?;
+        Ok(self.finish_get(got))
     }
 
     /// Gives a reference back.

@@ -7,23 +7,23 @@ use super::shared::NotShared;
 use super::threads;
 use super::token::{Begun, By};
 use crate::clear::Clear;
-use crate::errors::CreateError;
+use crate::errors::{CreateError, GetError};
 use crate::object::Block;
 
 impl<T: Clear> Room<T> {
     /// A call of a segment by the shared lane of the thread's choice; or by another one, where the segment hasn't that, or it isn't shared
-    /// any more.
+    /// any more. An error where there is none.
     #[inline(always)]
     pub(super) fn by_shared<'s, R>(
         &self,
         segment: &'s Segment<T>,
         call: impl Fn(Post<'s, T>) -> Result<R, NotShared>,
-    ) -> R {
+    ) -> Result<R, GetError> {
         let mut looked = 0;
         loop {
-            let number = self.shared_number();
+            let number = self.shared_number().ok_or(GetError::NoLane)?;
             match segment.post_of(number).map(&call) {
-                Some(Ok(answer)) => return answer,
+                Some(Ok(answer)) => return Ok(answer),
                 Some(Err(NotShared)) => self.waits_for_ask(number, &mut looked),
                 None => false,
             };

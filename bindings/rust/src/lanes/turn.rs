@@ -6,7 +6,7 @@ use super::{ProvedFilling, ProvedLane, ProvedPool, ProvedRef};
 use crate::clear::Clear;
 use crate::erased::poolsteps::{stack_word, Whole};
 use crate::erased::shardpool::{self, CreateFault, MOST_REFERENCES};
-use crate::errors::{CreateError, MemoryRefused};
+use crate::errors::{CreateError, GetError, MemoryRefused};
 use crate::key::Key;
 use crate::object::{Block, Chain, Chunk, Crowded, Object};
 use crate::shim::{Global, Ready};
@@ -39,9 +39,6 @@ fn cell<T>() -> Whole<Object<T>> {
     // SAFETY: it has no bytes, and who calls this has the filling of the place.
     unsafe { NonNull::<Whole<Object<T>>>::dangling().as_ptr().read() }
 }
-
-/// The lane has as many references as it may.
-pub(super) struct TooMany;
 
 /// What a create without memory of its own needs.
 pub(super) enum Short<T> {
@@ -409,9 +406,9 @@ impl<'s, T: Clear, P: Stands<'s, T>> Turn<'s, T, P> {
 
     /// A get of this segment.
     #[inline(always)]
-    pub(super) fn get<W: By<T>>(&mut self, key: Key) -> Result<Option<Held<'s, T, W>>, TooMany> {
+    pub(super) fn get<W: By<T>>(&mut self, key: Key) -> Result<Option<Held<'s, T, W>>, GetError> {
         if self.references() >= MOST_REFERENCES {
-            return Err(TooMany);
+            return Err(GetError::References);
         }
         let mut emptier = self.emptier();
         let (pool, lane, call) = self.proved();

@@ -391,28 +391,19 @@ impl<T: Clear> Room<T> {
         Some(bits(shared).skip(turn).chain(bits(shared).take(turn)))
     }
 
-    /// The shared lane of the thread's choice. The first is one that all segments have.
-    ///
-    /// # Panics
-    ///
-    /// Where there is none.
+    /// The shared lane of the thread's choice. The first is one that all segments have. None where all lanes are in hand.
     #[inline]
-    pub(super) fn shared_number(&self) -> u32 {
-        match threads::last_shared(self.id()) {
-            Some(number) => number,
-            None => self.choose_shared(),
-        }
+    pub(super) fn shared_number(&self) -> Option<u32> {
+        threads::last_shared(self.id()).or_else(|| self.choose_shared())
     }
 
     #[cold]
     #[inline(never)]
-    fn choose_shared(&self) -> u32 {
+    fn choose_shared(&self) -> Option<u32> {
         let everywhere = |number: &u32| self.lanes.everywhere & Number(*number).bit() != 0;
-        let numbers = self.shared_numbers();
-        let first = numbers.and_then(|mut numbers| numbers.find(everywhere));
-        let number = first.expect("all lanes of the pool are in hand");
+        let number = self.shared_numbers()?.find(everywhere)?;
         threads::set_last_shared(self.id(), number);
-        number
+        Some(number)
     }
 }
 
