@@ -22,22 +22,6 @@ fn a_growing_pool_opens_its_first_segment_when_it_is_used() {
     assert!(pools.iter().all(|pool| pool.census().total() == 0));
     assert!(pools.iter().all(|pool| pool.put(b"one").is_ok()));
     let used = written().saturating_sub(before) / 8;
-    assert!(used <= 160, "{used} KiB were written to");
+    assert!(used <= 128, "{used} KiB were written to");
     assert!(pools.iter().all(|pool| pool.census().total() == 16 * 32));
-}
-
-/// A lane's `try_get` finds the keys of all segments, and its references are given back there.
-#[test]
-fn a_lane_tries_all_segments() {
-    let pool = Pool::<String>::growing().unwrap();
-    let lane = pool.lane().unwrap();
-    let put = |number: usize| lane.put(&number.to_string()).unwrap();
-    let keys: Vec<_> = (0..100).map(put).collect();
-    for (number, key) in keys.iter().enumerate() {
-        let text = lane.try_get(*key).unwrap().unwrap();
-        assert_eq!((&**text, lane.references()), (&*number.to_string(), 1));
-    }
-    assert_eq!(lane.references(), 0);
-    assert!(lane.clear(keys[99]));
-    assert!(lane.try_get(keys[99]).unwrap().is_none());
 }

@@ -178,3 +178,19 @@ fn an_owned_buffer_is_empty_when_it_is_handed_out() {
     let census = pool.close();
     assert_eq!((census.present, census.marked, census.filling), (0, 0, 0));
 }
+
+/// A lane's `try_get` finds the keys of all segments, and its references are given back there.
+#[test]
+fn a_lane_tries_all_segments() {
+    let pool = Pool::<String>::growing().unwrap();
+    let lane = pool.lane().unwrap();
+    let put = |number: usize| lane.put(&number.to_string()).unwrap();
+    let keys: Vec<_> = (0..100).map(put).collect();
+    for (number, key) in keys.iter().enumerate() {
+        let text = lane.try_get(*key).unwrap().unwrap();
+        assert_eq!((&**text, lane.references()), (&*number.to_string(), 1));
+    }
+    assert_eq!(lane.references(), 0);
+    assert!(lane.clear(keys[99]));
+    assert!(lane.try_get(keys[99]).unwrap().is_none());
+}
