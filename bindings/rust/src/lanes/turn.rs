@@ -1,4 +1,4 @@
-//! The calls of the proved pool. None runs code of `T`: what a call takes out of a place comes back as a block.
+//! The calls of the proved pool. None runs code of others: what that is to empty comes back as a block.
 use super::emptying::{left, Emptying};
 use super::seat::{Post, Stands, Store};
 use super::token::{Begun, By, Held};

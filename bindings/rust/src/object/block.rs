@@ -45,7 +45,8 @@ impl<T> Body<T> {
     }
 }
 
-/// An object in its block, which nobody else reaches.
+/// An object in its block, which nobody else reaches. (Its address, so that none is zeros.)
+#[repr(transparent)]
 pub(crate) struct Block<T> {
     body: NonNull<Body<T>>,
     owns: PhantomData<Body<T>>,

@@ -14,7 +14,9 @@ use crate::shim::Global;
 use std::mem::{self, ManuallyDrop};
 use std::ptr::NonNull;
 
-/// What the proved pool takes for its object: a block, or none where the place is empty. No code of `T` runs in its calls.
+/// What the proved pool takes for its object: a block, or none where the place is empty. No code of others runs in its
+/// calls.
+#[repr(transparent)]
 pub(crate) struct Object<T> {
     block: ManuallyDrop<Option<Block<T>>>,
 }
