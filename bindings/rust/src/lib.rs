@@ -145,7 +145,8 @@
 //! - Each file in which a mistake would break memory, which are those with `unsafe`: `src/erased`, `src/shim`, `src/lanes` and
 //!   `src/object`. The others can't: what they get of these moves, so that a second release of a reference doesn't compile.
 //! - What the proofs take for granted: that all threads see the words of a pool read and written in one order (each step is sequentially
-//!   consistent); that the stack is large enough; that `usize` has 64 bits.
+//!   consistent, but for the store of a link, which the same thread's push puts in order); that the stack is large enough; that `usize` has
+//!   64 bits.
 //! - That a place whose word has another generation than a key has no object of that key any more, or not yet: so one load tells a get or
 //!   a clear that the key isn't there. (A word's generation grows alone, and the load stands in one order with all steps on it.)
 //! - That the allocator calls no pool while one is closed or dropped. In all other calls it may.

@@ -435,8 +435,18 @@ fn each_request_of_objects_is_refused() {
     refuse_each(objects, 25);
 }
 
-/// A create by a call, where all lanes are in hand and one request is refused: the lane that it had, and whether any was refused.
-fn create_beside_hands(granted: u32) -> (Result<u64, CreateError>, bool) {
+/// What a create answers of which one request is refused, and whether any was.
+type End<P> = (Result<P, CreateError>, bool);
+
+/// The ends of creates of which the first request is refused, the second, and so on, as long as any is.
+fn ends_of<P: Send + 'static>(create: fn(u32) -> End<P>) -> Vec<End<P>> {
+    let run = |granted| std::thread::spawn(move || create(granted)).join();
+    let ends = (0..).map(|granted| run(granted).expect("no panic"));
+    ends.take_while(|(_, refused)| *refused).collect()
+}
+
+/// A create by a call, where all lanes are in hand: the lane that it had.
+fn create_beside_hands(granted: u32) -> End<u64> {
     let pool = Pool::<Buffer>::growing().expect("memory for a pool");
     let hands: Vec<_> = (0..12).map_while(|_| pool.lane()).collect();
     GRANTED.set(granted);
@@ -455,44 +465,40 @@ fn create_beside_hands(granted: u32) -> (Result<u64, CreateError>, bool) {
 /// Where a segment with more lanes finds no memory, the thread shares one of the first.
 #[test]
 fn a_thread_shares_where_more_lanes_find_no_memory() {
-    let run = |granted| std::thread::spawn(move || create_beside_hands(granted)).join();
-    let ends = (0..).map(|granted| run(granted).expect("no panic"));
-    let refused: Vec<_> = ends.take_while(|(_, refused)| *refused).collect();
-    let shared = |(lane, _): &&(Result<u64, CreateError>, bool)| matches!(lane, Ok(lane) if (12..16).contains(lane));
-    assert!(refused.iter().filter(shared).count() >= 30);
-    let others = refused.iter().filter(|end| !shared(end));
-    assert!(others
-        .map(|(lane, _)| *lane)
-        .all(|lane| lane == Ok(16) || lane == Err(CreateError::Memory)));
+    let is_shared = |(lane, _): &End<u64>| matches!(lane, Ok(lane) if (12..16).contains(lane));
+    let (shared, others): (Vec<_>, Vec<_>) = ends_of(create_beside_hands)
+        .into_iter()
+        .partition(is_shared);
+    assert!(shared.len() >= 30);
+    let answers = [Ok(16), Err(CreateError::Memory)];
+    assert!(others.iter().all(|(lane, _)| answers.contains(lane)));
     assert_eq!(create_beside_hands(u32::MAX), (Ok(16), false));
 }
 
-/// A create where the places of the thread's lane and of the shared ones are in use, and one request is refused: the place that it had,
-/// and whether any was refused.
-fn create_where_all_is_full(granted: u32) -> (Result<u64, CreateError>, bool) {
+/// A create where the places of the thread's lane and of the shared ones are in use: its segment, by the tag, and its lane.
+fn create_where_all_is_full(granted: u32) -> End<(u64, u64)> {
     let pool = Pool::<Buffer>::growing().expect("memory for a pool");
     let create = || pool.create().map(|filling| filling.publish());
     for _ in 0..5 * 32 {
         create().expect("a place");
     }
     GRANTED.set(granted);
-    let created = tried(create).map(|key| u64::from(key) >> 16);
-    (created, REFUSED.get() > 0)
+    let created = tried(create).map(u64::from);
+    let place = created.map(|key| (key >> 56, key >> 16 & 0xff));
+    (place, REFUSED.get() > 0)
 }
 
 /// Where a further segment finds no memory, a lane that nobody has is shared.
 #[test]
 fn a_lane_at_home_is_shared_where_growth_finds_no_memory() {
-    let run = |granted| std::thread::spawn(move || create_where_all_is_full(granted)).join();
-    let ends = (0..).map(|granted| run(granted).expect("no panic"));
-    let refused: Vec<_> = ends.take_while(|(_, refused)| *refused).collect();
-    // (Of the first segment, by its tag, and its second lane.)
-    let shared = |(place, _): &&(Result<u64, CreateError>, bool)| matches!(place, Ok(place) if place & 0xff_0000_00ff == 1);
-    assert!(refused.iter().filter(shared).count() >= 30);
-    let others = refused.iter().filter(|end| !shared(end));
-    assert!(others
-        .map(|(place, _)| place)
-        .all(|place| *place == Err(CreateError::Memory)));
+    let is_shared = |(place, _): &End<(u64, u64)>| *place == Ok((0, 1));
+    let (shared, others): (Vec<_>, Vec<_>) = ends_of(create_where_all_is_full)
+        .into_iter()
+        .partition(is_shared);
+    assert!(shared.len() >= 30);
+    let refusal = Err(CreateError::Memory);
+    assert!(others.iter().all(|(place, _)| *place == refusal));
+    assert_eq!(create_where_all_is_full(u32::MAX), (Ok((1, 0)), false));
 }
 
 /// A buffer that is emptied under its lane's lock is used again, with its memory.

@@ -153,9 +153,13 @@ impl<'s, T: Clear, P: Stands<'s, T>> Turn<'s, T, P> {
     }
 
     /// Who empties what one call takes out of a place.
+    ///
+    /// # Safety
+    ///
+    /// It is used within the one call of this turn that follows. (It turns to the lane's blocks alone, of which the call doesn't know.)
     #[inline(always)]
-    fn emptier(&mut self) -> Emptying<'s, T, P> {
-        // SAFETY: within a call of this turn it turns to the lane's blocks alone, of which the call doesn't know.
+    unsafe fn emptier(&mut self) -> Emptying<'s, T, P> {
+        // SAFETY: the turn isn't used otherwise within the call.
         Emptying::by(unsafe { Turn::of(self.at) })
     }
 
@@ -410,7 +414,8 @@ impl<'s, T: Clear, P: Stands<'s, T>> Turn<'s, T, P> {
         if self.references() >= MOST_REFERENCES {
             return Err(GetError::References);
         }
-        let mut emptier = self.emptier();
+        // SAFETY: for the call below.
+        let mut emptier = unsafe { self.emptier() };
         let (pool, lane, call) = self.proved();
         let Some(proved) = pool.get_with(lane, u64::from(key), &mut emptier) else {
             call.end();
@@ -432,7 +437,8 @@ impl<'s, T: Clear, P: Stands<'s, T>> Turn<'s, T, P> {
     #[inline(always)]
     pub(super) unsafe fn release<W>(&mut self, held: Held<'_, T, W>) {
         let (key, start) = held.into_proved();
-        let mut emptier = self.emptier();
+        // SAFETY: for the call below.
+        let mut emptier = unsafe { self.emptier() };
         let (pool, lane, call) = self.proved();
         let proved = ProvedRef::to(key, start, &lane.state.places);
         pool.release_with(lane, proved, &mut emptier);
@@ -442,7 +448,8 @@ impl<'s, T: Clear, P: Stands<'s, T>> Turn<'s, T, P> {
     /// A clear of this segment.
     #[inline(always)]
     pub(super) fn clear(&mut self, key: Key) -> bool {
-        let mut emptier = self.emptier();
+        // SAFETY: for the call below.
+        let mut emptier = unsafe { self.emptier() };
         let (pool, lane, call) = self.proved();
         let cleared = pool.clear_with(lane, u64::from(key), &mut emptier);
         call.end();

@@ -102,7 +102,7 @@ impl<T> Block<T> {
 
     /// The body, of which the caller then takes care.
     #[inline]
-    pub(super) fn into_body(self) -> NonNull<Body<T>> {
+    fn into_body(self) -> NonNull<Body<T>> {
         let block = ManuallyDrop::new(self);
         block.body
     }
@@ -111,7 +111,7 @@ impl<T> Block<T> {
     ///
     /// The body was a block's, whose `into_body` gave it, and goes into one block alone.
     #[inline]
-    pub(super) unsafe fn from_body(body: NonNull<Body<T>>) -> Block<T> {
+    unsafe fn from_body(body: NonNull<Body<T>>) -> Block<T> {
         Block {
             body,
             owns: PhantomData,
@@ -121,7 +121,7 @@ impl<T> Block<T> {
 
 /// Where the object of a body stands.
 #[inline]
-pub(super) fn address<T>(body: NonNull<Body<T>>) -> NonNull<T> {
+fn address<T>(body: NonNull<Body<T>>) -> NonNull<T> {
     // SAFETY: the field of a body that is there, whose address isn't null. No reference is made.
     unsafe { NonNull::new_unchecked(ptr::addr_of_mut!((*body.as_ptr()).object).cast()) }
 }
@@ -185,7 +185,7 @@ impl<T> Chain<T> {
     ///
     /// Null, or a body that `into_body` gave; and each body's `next` is so again. None is anywhere else.
     #[inline]
-    pub(super) unsafe fn of(first: *mut Body<T>) -> Chain<T> {
+    unsafe fn of(first: *mut Body<T>) -> Chain<T> {
         Chain {
             first,
             owns: PhantomData,
