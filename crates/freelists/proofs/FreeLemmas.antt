@@ -97,6 +97,10 @@ pub keeps-followed : (i : Inside) (free : FreePlaces) (link : ℕ) (p : Place) �
 keeps-followed i free link p view k some goes at =
     (k.0, k.1, k.2, k.3, apart-followed (shown i) (own_of i) link p k.0 refl some (subst (λ (v : FreePlaces). GoesOnBy v link) (sym view) goes) at)
 
+-- the place of a number has that number
+pub numbered : (number : ℕ) → number ≡ number_of (place_numbered number)
+numbered number = omega arith
+
 -- ---- push
 
 module _ (i : Inside) (free : FreePlaces) (place : Place) (view : shown i ≡ free) (k : Keeps i) (is_away : IsAway free place) where

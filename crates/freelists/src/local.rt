@@ -51,12 +51,12 @@ impl Model for LocalFree {
 }
 
 impl LocalFree {
-    ghost use Rattle.std.specs.Prelude.{◌≡◌, ◌<◌, ◌≤◌, ◌↔◌, List, [], ◌∷◌, ◌++◌, length, Contains, Some, None, IsSome, IfSome, option_to_list};
+    ghost use Rattle.std.specs.Prelude.{◌≡◌, ◌<◌, ◌≤◌, ◌↔◌, List, [], ◌∷◌, ◌++◌, length, Contains, Some, None, IsSome, IsNone, IfSome, option_to_list};
     ghost use Rattle.keybits.specs.declared.place.Place.{Place};
     ghost use Rattle.keybits.specs.Places.{number_of};
     ghost use Rattle.keybits.specs.Shapes.{IsShape, shard_places};
     ghost use Rattle.keybits.specs.Links.{link_to};
-    ghost use Rattle.freelists.specs.Shards.{shape_of, IsOwn};
+    ghost use Rattle.freelists.specs.Shards.{shape_of, IsOwn, place_numbered};
     ghost use Rattle.freelists.specs.Queues.{AreFree, IsAway, GoesOnBy};
 
     /// No free places of a shard from 0 to 63 and no chain, with room for all its places. The first page has 1, 2, 4,
@@ -92,8 +92,19 @@ impl LocalFree {
         ensures pushed { self.new ≡ record self.old { own = self.old.own ++ place ∷ [] } }
         ensures places { AreFree self.new }
     {
+        let number = self.shard.number_of(place);
+        self.push_number(number);
+    }
+
+    /// The same of the place of this number.
+    #[inline]
+    pub fn push_number(&mut self, number: u32)
+        requires { IsAway self.old (place_numbered number) }
+        ensures pushed { self.new ≡ record self.old { own = self.old.own ++ place_numbered number ∷ [] } }
+        ensures places { AreFree self.new }
+    {
         let end = behind(self.first, self.count, self.ring.len());
-        self.ring[end] = place.number();
+        self.ring[end] = number;
         self.count += 1;
     }
 
@@ -107,13 +118,26 @@ impl LocalFree {
         ensures away { IfSome result (IsAway self.new) }
         ensures places { AreFree self.new }
     {
+        let number = self.pop_number()?;
+        Some(Place::of_number(number))
+    }
+
+    /// The same, which answers the place's number.
+    #[inline]
+    pub fn pop_number(&mut self) -> Option<u32>
+        ensures none { IsNone result → (self.old.own ≡ []) × (self.new ≡ self.old) }
+        ensures first { IfSome result (λ number. self.old.own ≡ place_numbered number ∷ self.new.own) }
+        ensures rest { self.new ≡ record self.old { own = self.new.own } }
+        ensures away { IfSome result (λ number. IsAway self.new (place_numbered number)) }
+        ensures places { AreFree self.new }
+    {
         if self.count == 0 {
             return None;
         }
-        let place = Place::of_number(self.ring[self.first]);
+        let number = self.ring[self.first];
         self.first = after(self.first, self.ring.len());
         self.count -= 1;
-        Some(place)
+        Some(number)
     }
 
     /// How many places the own list has. Those of a chain don't count.

@@ -20,7 +20,7 @@ impl Shard {
     ghost use Rattle.keybits.specs.declared.place.Place.{Place};
     ghost use Rattle.keybits.specs.Places.{number_of};
     ghost use Rattle.keybits.specs.Shapes.{index_of, shard_places};
-    ghost use Rattle.freelists.specs.Shards.{shape_of, IsShardOf, IsOwn};
+    ghost use Rattle.freelists.specs.Shards.{shape_of, IsShardOf, IsOwn, place_numbered};
 
     /// The shard of this number, whose first page has this many places, and which has this many pages.
     #[inline]
@@ -35,6 +35,17 @@ impl Shard {
             tag: 0,
         };
         Shard { number, shape }
+    }
+
+    /// The number of an own place.
+    #[inline]
+    pub(crate) fn number_of(&self, place: Place) -> u32
+        requires shard { IsShardOf self.now.number self.now.shape }
+        requires own { IsOwn self.now.number self.now.shape place }
+        ensures number { result ≡ number_of place }
+        ensures back { place_numbered result ≡ place }
+    {
+        place.number()
     }
 
     /// Which of the shard's places an own place is, counted from 0.

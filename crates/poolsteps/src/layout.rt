@@ -117,17 +117,17 @@ pub fn slot_at(shape: &Shape, place: u32, position: usize, lane: u32) -> usize
     lane as usize * slot_row(shape) + slot_start(shape, place, position)
 }
 
-/// Where the places of a page stand: those of its first place.
+// Where the places of a page stand: those of its first place.
 #[derive(Clone, Copy, Debug, PartialEq, Eq)]
-pub struct PageRow {
-    /// How many places the page has; 0 where the shape has no such page.
+pub(crate) struct PageRow {
+    // How many places the page has; 0 where the shape has no such page.
     pub(crate) places: u32,
-    /// Where its first place stands in each row of words or of slots.
-    pub start: u32,
+    // Where its first place stands in each row of words or of slots.
+    pub(crate) start: u32,
 }
 
-/// The rows of all pages, `SHARD_PAGES` to a shard. None where memory was refused.
-pub fn page_rows(alloc: Global, shape: &Shape) -> Option<Vec<PageRow>>
+// The rows of all pages, `SHARD_PAGES` to a shard. None where memory was refused.
+pub(crate) fn page_rows(alloc: Global, shape: &Shape) -> Option<Vec<PageRow>>
     requires { IsShape shape.now }
     ensures { IfSome result (λ rows. rows.items ≡ page_rows shape.now (page_count shape.now)) }
 {

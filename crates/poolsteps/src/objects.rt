@@ -51,6 +51,14 @@ impl<T> Objects<T> {
     {
         self.directory
     }
+
+    /// Where the own places begin.
+    #[inline]
+    pub fn first(&self) -> usize
+        ensures { result ≡ self.now.first }
+    {
+        self.first
+    }
 }
 
 impl<T: Drop> Objects<T> {

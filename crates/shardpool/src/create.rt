@@ -292,11 +292,7 @@ fn pop<T: Clear + Drop>(lane: &mut Lane<T>) -> Option<(Spot, Whole<T>)>
     ensures at { IfSome result (λ taken. taken.1.spot ≡ spots_at lane.old.directory lane.old.shape taken.0.place) }
     ensures fillings { (filling : FillingOf T) → Made lane.old filling → Made lane.new filling }
 {
-    let (place, start, whole) = take_own(&mut lane.state)?;
-    let spot = Spot {
-        place: place.number(),
-        start,
-    };
+    let (spot, whole) = take_own(&mut lane.state)?;
     Some((spot, whole))
 }
 

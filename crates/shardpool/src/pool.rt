@@ -165,8 +165,9 @@ pub(crate) struct Places {
 
 impl Places {
     ghost use Rattle.std.specs.Prelude.{◌≡◌, ◌<◌, true, IfSome};
+    ghost use Rattle.keybits.specs.Places.{shard_of};
     ghost use Rattle.keybits.specs.Shapes.{is_place};
-    ghost use Rattle.poolsteps.specs.Layout.{slot_start, slot_row};
+    ghost use Rattle.poolsteps.specs.Layout.{slot_start, slot_row, shard_start};
 
     /// The places of a pool of this shape. None where memory was refused.
     pub(crate) fn of(alloc: Global, shape: &Shape) -> Option<Places>
@@ -189,8 +190,19 @@ impl Places {
         ensures start { result ≡ slot_start self.now.shape place }
         ensures below { result < slot_row self.now.shape }
     {
+        self.start_from(shard_of(place) * self.apart, place)
+    }
+
+    /// Where a place of the pool stands whose shard begins there.
+    #[inline]
+    pub(crate) fn start_from(&self, first: u32, place: u32) -> u32
+        requires place { is_place self.now.shape place ≡ true }
+        requires first { first ≡ shard_start self.now.shape (shard_of place) }
+        ensures start { result ≡ slot_start self.now.shape place }
+        ensures below { result < slot_row self.now.shape }
+    {
         let page = place % SHARD_NUMBERS / PAGE_NUMBERS;
-        shard_of(place) * self.apart + self.starts[page as usize] + place % PAGE_NUMBERS
+        first + self.starts[page as usize] + place % PAGE_NUMBERS
     }
 }
 

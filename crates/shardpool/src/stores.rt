@@ -30,7 +30,7 @@ pub(crate) fn keep<T: Drop>(state: &mut LaneState<T>, spot: Spot, whole: Whole<T
     ensures { KeepsOwn spot.place whole.object state.old state.new }
 {
     state.objects.keep(spot.start as usize, whole);
-    state.free.push(Place::of_number(spot.place));
+    state.free.push_number(spot.place);
 }
 
 /// An empty object of an own place, which never had one, rests with the lane, and the place goes to the end of the
@@ -45,16 +45,16 @@ fn list<T: Drop>(state: &mut LaneState<T>, place: u32, object: T)
     requires right { slice_get state.old.objects.rights (index_of state.old.shape place) ≡ Some true }
     ensures { KeepsOwn place object state.old state.new }
 {
-    state
-        .objects
-        .fill(state.places.start(place) as usize, object);
-    state.free.push(Place::of_number(place));
+    let first = state.objects.first() as u32;
+    let start = state.places.start_from(first, place);
+    state.objects.fill(start as usize, object);
+    state.free.push_number(place);
 }
 
 /// The first place of the lane's list, where it stands, and its cell. None where the list is empty, which changes
 /// nothing.
 #[inline]
-pub(crate) fn take_own<T: Drop>(state: &mut LaneState<T>) -> Option<(Place, u32, Whole<T>)>
+pub(crate) fn take_own<T: Drop>(state: &mut LaneState<T>) -> Option<(Spot, Whole<T>)>
     requires shape { IsShape state.old.shape }
     requires lane { state.old.free.shard < state.old.shape.lanes }
     requires lists { state.old.free.shape ≡ shape_of state.old.shape.first_page state.old.shape.pages }
@@ -63,14 +63,15 @@ pub(crate) fn take_own<T: Drop>(state: &mut LaneState<T>) -> Option<(Place, u32,
     requires objects { (place : Shown) → Contains state.old.free.own place
         → (object : T) × (slice_get state.old.objects.items (index_of state.old.shape (number_of place)) ≡ Some (Some object)) }
     ensures { MatchOption result ((state.old.free.own ≡ [])
-        × (state.new ≡ state.old)) (λ taken. TakesOwn taken.0 taken.2.object state.old state.new
-        × (taken.1 ≡ slot_start state.old.shape (number_of taken.0))
-        × (taken.2.spot ≡ spots_at state.old.objects.directory state.old.shape (number_of taken.0))) }
+        × (state.new ≡ state.old)) (λ taken. TakesOwn (place_numbered taken.0.place) taken.1.object state.old state.new
+        × (taken.0.start ≡ slot_start state.old.shape taken.0.place)
+        × (taken.1.spot ≡ spots_at state.old.objects.directory state.old.shape taken.0.place)) }
 {
-    let place = state.free.pop()?;
-    let start = state.places.start(place.number());
+    let place = state.free.pop_number()?;
+    let first = state.objects.first() as u32;
+    let start = state.places.start_from(first, place);
     match state.objects.take(start as usize) {
-        Some(whole) => Some((place, start, whole)),
+        Some(whole) => Some((Spot { place, start }, whole)),
         None => unreachable!(),
     }
 }

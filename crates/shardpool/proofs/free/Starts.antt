@@ -7,7 +7,7 @@ use native.Mathlib.Decide.{ℕ_discrete}
 use Rattle.keybits.specs.declared.shape.Shape.{Shape}
 use Rattle.keybits.specs.Places.{shard_of, page_of, slot_of}
 use Rattle.keybits.specs.Shapes.{page_start, shard_places}
-use Rattle.poolsteps.specs.Layout.{slot_start}
+use Rattle.poolsteps.specs.Layout.{slot_start, shard_start}
 use Rattle.shardpool.specs.Rows.{page_starts}
 
 pub starts-length : (z : Shape) (count : ℕ) → length (page_starts z count) ≡ count
@@ -25,7 +25,11 @@ start-at z (suc count) page other below = dite (ℕ_discrete page count)
     get_or_append_left (page_starts z count) (page_start z count ∷ []) other page (omega (arith, starts-length z count))
     ∙ start-at z count page other (omega arith))
 
+-- a shard begins behind the shards before it
+pub shard-is : (z : Shape) (shard apart : ℕ) → apart ≡ shard_places z + 22 → shard * apart ≡ shard_start z shard
+shard-is z shard apart wide = rw wide (omega (arith, mul-add shard (shard_places z) 22))
+
 -- a place stands behind the shards before its own, and behind the pages before its own
-pub start-is : (z : Shape) (place apart first : ℕ) → apart ≡ shard_places z + 22 → first ≡ page_start z (page_of place)
-    → shard_of place * apart + first + slot_of place ≡ slot_start z place
-start-is z place apart first wide begins = rw (wide, begins) (omega (arith, mul-add (shard_of place) (shard_places z) 22))
+pub start-is : (z : Shape) (place shard first : ℕ) → shard ≡ shard_start z (shard_of place) → first ≡ page_start z (page_of place)
+    → shard + first + slot_of place ≡ slot_start z place
+start-is z place shard first begins page = rw (begins, page) (omega arith)

@@ -44,8 +44,15 @@ impl LocalFree {
     /// Puts an own place, which is neither on the own list nor the chain's first, at the end of the own list.
     #[inline]
     pub fn push(&mut self, place: Place) {
+        let number = self.shard.number_of(place);
+        self.push_number(number);
+    }
+
+    /// The same of the place of this number.
+    #[inline]
+    pub fn push_number(&mut self, number: u32) {
         let end = behind(self.first, self.count, self.ring.len());
-        self.ring[end] = place.number();
+        self.ring[end] = number;
         self.count += 1;
     }
 
@@ -53,13 +60,20 @@ impl LocalFree {
     /// the list is empty, which changes nothing.
     #[inline]
     pub fn pop(&mut self) -> Option<Place> {
+        let number = self.pop_number()?;
+        Some(Place::of_number(number))
+    }
+
+    /// The same, which answers the place's number.
+    #[inline]
+    pub fn pop_number(&mut self) -> Option<u32> {
         if self.count == 0 {
             return None;
         }
-        let place = Place::of_number(self.ring[self.first]);
+        let number = self.ring[self.first];
         self.first = after(self.first, self.ring.len());
         self.count -= 1;
-        Some(place)
+        Some(number)
     }
 
     /// How many places the own list has. Those of a chain don't count.

@@ -27,6 +27,12 @@ impl Shard {
         Shard { number, shape }
     }
 
+    /// The number of an own place.
+    #[inline]
+    pub(crate) fn number_of(&self, place: Place) -> u32 {
+        place.number()
+    }
+
     /// Which of the shard's places an own place is, counted from 0.
     #[inline]
     pub(crate) fn index(&self, place: Place) -> usize {

@@ -26,6 +26,12 @@ impl<T> Objects<T> {
     pub fn base(&self) -> Base<T> {
         self.directory
     }
+
+    /// Where the own places begin.
+    #[inline]
+    pub fn first(&self) -> usize {
+        self.first
+    }
 }
 
 impl<T> Objects<T> {

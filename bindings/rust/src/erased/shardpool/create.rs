@@ -197,11 +197,7 @@ impl<T: Clear> Pool<T> {
 /// Where the first place of the lane's own list stands, and its cell. None where the list is empty.
 #[inline(always)]
 fn pop<T: Clear>(lane: &mut Lane<T>) -> Option<(Spot, Whole<T>)> {
-    let (place, start, whole) = take_own(&mut lane.state)?;
-    let spot = Spot {
-        place: place.number(),
-        start,
-    };
+    let (spot, whole) = take_own(&mut lane.state)?;
     Some((spot, whole))
 }
 

@@ -120,8 +120,14 @@ impl Places {
     /// Where a place of the pool stands.
     #[inline]
     pub(crate) fn start(&self, place: u32) -> u32 {
+        self.start_from(shard_of(place) * self.apart, place)
+    }
+
+    /// Where a place of the pool stands whose shard begins there.
+    #[inline]
+    pub(crate) fn start_from(&self, first: u32, place: u32) -> u32 {
         let page = place % SHARD_NUMBERS / PAGE_NUMBERS;
-        shard_of(place) * self.apart + self.starts[page as usize] + place % PAGE_NUMBERS
+        first + self.starts[page as usize] + place % PAGE_NUMBERS
     }
 }
 

@@ -13,26 +13,27 @@ use crate::erased::slotcell::Clear;
 #[inline(always)]
 pub(crate) fn keep<T>(state: &mut LaneState<T>, spot: Spot, whole: Whole<T>) {
     state.objects.keep(spot.start as usize, whole);
-    state.free.push(Place::of_number(spot.place));
+    state.free.push_number(spot.place);
 }
 
 /// An empty object of an own place, which never had one, rests with the lane, and the place goes to the end of the
 /// lane's list.
 fn list<T>(state: &mut LaneState<T>, place: u32, object: T) {
-    state
-        .objects
-        .fill(state.places.start(place) as usize, object);
-    state.free.push(Place::of_number(place));
+    let first = state.objects.first() as u32;
+    let start = state.places.start_from(first, place);
+    state.objects.fill(start as usize, object);
+    state.free.push_number(place);
 }
 
 /// The first place of the lane's list, where it stands, and its cell. None where the list is empty, which changes
 /// nothing.
 #[inline(always)]
-pub(crate) fn take_own<T>(state: &mut LaneState<T>) -> Option<(Place, u32, Whole<T>)> {
-    let place = state.free.pop()?;
-    let start = state.places.start(place.number());
+pub(crate) fn take_own<T>(state: &mut LaneState<T>) -> Option<(Spot, Whole<T>)> {
+    let place = state.free.pop_number()?;
+    let first = state.objects.first() as u32;
+    let start = state.places.start_from(first, place);
     match state.objects.take(start as usize) {
-        Some(whole) => Some((place, start, whole)),
+        Some(whole) => Some((Spot { place, start }, whole)),
         None => impossible!(),
     }
 }

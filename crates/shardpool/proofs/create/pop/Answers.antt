@@ -2,8 +2,9 @@
 use Rattle.std.proofs.Common.{◌≡◌, ◌<◌, true, ℕ, refl, ap, sym, ◌∙◌, subst}
 use Rattle.std.proofs.lemmas.Bool.{false≢true}
 use Rattle.keybits.specs.Shapes.{is_place}
+use Rattle.freelists.proofs.FreeLemmas.{numbered}
 use Rattle.poolsteps.specs.Grids.{IsSpot}
-use Rattle.poolsteps.specs.Layout.{slot_start, shard_start, spots_at}
+use Rattle.poolsteps.specs.Layout.{shard_start, spots_at}
 use Rattle.shardpool.specs.Tokens.{LaneOf}
 use Rattle.shardpool.specs.Creates.{Pops}
 use Rattle.shardpool.specs.Lanes.{Made}
@@ -32,52 +33,46 @@ take_own-requires-clause-objects g c = listed-object c.lane.invariant.1
 pub take_own-requires-clause-placed : goal.take_own-requires-clause-placed
 take_own-requires-clause-placed g c = own-placed (fits-beside c.lane.invariant.1)
 
-pub number-requires-clause-slot : goal.number-requires-clause-slot
-number-requires-clause-slot g c = (popped-inside c.lane.invariant.1 c.in_ok-place.ensures.0).low_slot
-
 pub invariant_of-lane-2 : goal.invariant_of-lane-2
-invariant_of-lane-2 g c = (c.lane.invariant.0, popped-fits c.lane.invariant.1 c.in_ok-place.ensures.0)
+invariant_of-lane-2 g c = (c.lane.invariant.0, popped-fits c.lane.invariant.1 c.in_ok-spot.ensures.0)
 
 pub returns-clause-some : goal.returns-clause-some
 returns-clause-some g c =
     let content = g.T.Clear.content in
     let room = g.T.Clear.room in
     let new : LaneOf = lane_of c.lane.inside.hand.table_id c.lane.inside.hand.me.0 c.take_own.new.state in
-    subst (λ (lane : LaneOf). Pops content room lane new c.number.result c.in_ok-place.whole.object) c.lane.view_is
-    (subst (λ (n : ℕ). Pops content room (lane_of c.lane.inside.hand.table_id c.lane.inside.hand.me.0 c.lane.inside.state) new n c.in_ok-place.whole.object) (sym c.number.ensures)
-    (popped c.lane.invariant.1 c.in_ok-place.ensures.0 c.lane.inside.hand.table_id))
+    subst (λ (lane : LaneOf). Pops content room lane new c.in_ok-spot.spot.place c.in_ok-spot.whole.object) c.lane.view_is
+    (subst (λ (n : ℕ). Pops content room (lane_of c.lane.inside.hand.table_id c.lane.inside.hand.me.0 c.lane.inside.state) new n c.in_ok-spot.whole.object)
+    (sym (numbered c.in_ok-spot.spot.place))
+    (popped c.lane.invariant.1 c.in_ok-spot.ensures.0 c.lane.inside.hand.table_id))
 
 pub returns-clause-spot : goal.returns-clause-spot
 returns-clause-spot g c =
     let z = c.lane.inside.state.shape in
-    let spot : IsSpot z (record { place = c.number.result; start = c.in_ok-place.start }) c.number.result = record {
+    let place = c.in_ok-spot.spot.place in
+    let spot : IsSpot z c.in_ok-spot.spot place = record {
       place_is = refl;
-      inside = subst (λ (n : ℕ). is_place z n ≡ true) (sym c.number.ensures) (popped-inside c.lane.invariant.1 c.in_ok-place.ensures.0).is_in;
-      start = c.in_ok-place.ensures.1 ∙ ap (slot_start z) (sym c.number.ensures);
+      inside = subst (λ (n : ℕ). is_place z n ≡ true) (sym (numbered place)) (popped-inside c.lane.invariant.1 c.in_ok-spot.ensures.0).is_in;
+      start = c.in_ok-spot.ensures.1;
     } in
-    subst (λ (lane : LaneOf). IsSpot lane.shape (record { place = c.number.result; start = c.in_ok-place.start }) c.number.result) c.lane.view_is spot
+    subst (λ (lane : LaneOf). IsSpot lane.shape c.in_ok-spot.spot place) c.lane.view_is spot
 
 pub returns-clause-at : goal.returns-clause-at
 returns-clause-at g c =
-    let s = c.lane.inside.state in
-    subst (λ (lane : LaneOf). c.in_ok-place.whole.spot ≡ spots_at lane.directory lane.shape c.number.result) c.lane.view_is
-    (c.in_ok-place.ensures.2 ∙ ap (spots_at s.objects.directory s.shape) (sym c.number.ensures))
+    subst (λ (lane : LaneOf). c.in_ok-spot.whole.spot ≡ spots_at lane.directory lane.shape c.in_ok-spot.spot.place) c.lane.view_is c.in_ok-spot.ensures.2
 
 pub returns-clause-fillings : goal.returns-clause-fillings
 returns-clause-fillings g c = λ filling made.
-    popped-fillings c.lane.invariant.1 c.in_ok-place.ensures.0 c.lane.inside.hand.table_id filling (subst (λ (lane : LaneOf). Made lane filling) (sym c.lane.view_is) made)
-
-pub number-requires-clause-page : goal.number-requires-clause-page
-number-requires-clause-page g c = (popped-inside c.lane.invariant.1 c.in_ok-place.ensures.0).low_page
+    popped-fillings c.lane.invariant.1 c.in_ok-spot.ensures.0 c.lane.inside.hand.table_id filling (subst (λ (lane : LaneOf). Made lane filling) (sym c.lane.view_is) made)
 
 pub returns-clause-none : goal.returns-clause-none
 returns-clause-none g c = λ none. absurd (false≢true (sym none))
 
-pub returns-in_err-place-clause-some : goal.returns-in_err-place-clause-some
-returns-in_err-place-clause-some g c = rw c.from_residual.ensures tt
+pub returns-in_err-spot-clause-some : goal.returns-in_err-spot-clause-some
+returns-in_err-spot-clause-some g c = rw c.from_residual.ensures tt
 
-pub returns-in_err-place-clause-spot : goal.returns-in_err-place-clause-spot
-returns-in_err-place-clause-spot g c = rw c.from_residual.ensures tt
+pub returns-in_err-spot-clause-spot : goal.returns-in_err-spot-clause-spot
+returns-in_err-spot-clause-spot g c = rw c.from_residual.ensures tt
 
-pub returns-in_err-place-clause-at : goal.returns-in_err-place-clause-at
-returns-in_err-place-clause-at g c = rw c.from_residual.ensures tt
+pub returns-in_err-spot-clause-at : goal.returns-in_err-spot-clause-at
+returns-in_err-spot-clause-at g c = rw c.from_residual.ensures tt

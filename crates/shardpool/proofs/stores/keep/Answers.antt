@@ -1,9 +1,7 @@
 -- The object waits at the index of one of the lane's places.
-use Rattle.std.proofs.Common.{◌≡◌, ◌++◌, ◌-◌, ◌∷◌, [], Some, true, refl, sym, ap, ◌∙◌, slice_set}
-use Rattle.keybits.specs.declared.place.Place.{Place}
+use Rattle.std.proofs.Common.{◌≡◌, ◌-◌, Some, true, refl, sym, ap, ◌∙◌, slice_set}
 use Rattle.keybits.specs.Places.{shard_of}
 use Rattle.keybits.specs.Shapes.{index_of}
-use Rattle.freelists.specs.Shards.{place_numbered}
 use Rattle.poolsteps.specs.Objects.{spot_at}
 use Rattle.shardpool.proofs.free.Words.{word-low, word-high, word-index}
 use Rattle.shardpool.proofs.stores.keep.Goals as goal
@@ -21,13 +19,11 @@ keep-requires-clause-spot g c = c.requires.at ∙ ap (spot_at c.args.state.now.o
 pub returns : goal.returns
 returns g c =
     let s = c.args.state.now in let place = c.args.spot.place in let there = c.requires.spot in
-    let index : c.args.spot.start - s.objects.first ≡ index_of s.shape place = word-index s.shape place (shard_of place) c.args.spot.start s.objects.first refl there.start c.requires.begins in
-    let kept : Place = place_numbered place in
-    let made : c.of_number.result ≡ kept = λ i. record { shard = c.of_number.ensures.shard i; page = c.of_number.ensures.page i; slot = c.of_number.ensures.slot i } in record {
+    let index : c.args.spot.start - s.objects.first ≡ index_of s.shape place = word-index s.shape place (shard_of place) c.args.spot.start s.objects.first refl there.start c.requires.begins in record {
       objects = ap (λ o. o.items) c.keep.ensures ∙ ap (λ i. slice_set s.objects.items i (Some c.args.whole.object)) index;
       rights = ap (λ o. o.rights) c.keep.ensures ∙ ap (λ i. slice_set s.objects.rights i true) index;
       same = (ap (λ o. o.directory) c.keep.ensures, ap (λ o. o.first) c.keep.ensures);
-      list = c.push.ensures.pushed ∙ ap (λ place. record s.free { own = s.free.own ++ place ∷ [] }) made;
-      free = c.push.ensures.places;
+      list = c.push_number.ensures.pushed;
+      free = c.push_number.ensures.places;
       rest = refl;
     }

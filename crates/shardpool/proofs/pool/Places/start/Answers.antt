@@ -1,54 +1,23 @@
--- The start of its page tells where a place stands.
-use Rattle.std.proofs.Common.{◌≡◌, ◌+◌, ◌*◌, ◌/◌, ◌%◌, ◌<◌, ℕ, Fits, w32, length, slice_index_or, refl, sym, ap, subst, ◌∙◌, arith}
-use Rattle.keybits.specs.Places.{page_of}
-use Rattle.keybits.specs.Shapes.{page_start}
-use Rattle.keybits.proofs.ShapeLemmas.{is_place-parts}
-use Rattle.poolsteps.specs.Layout.{slot_start, slot_row}
+-- The start of its shard tells where a place stands.
+use Rattle.std.proofs.Common.{◌*◌, ℕ, Fits, w32, refl, sym, ap, subst, ◌∙◌, arith}
+use Rattle.keybits.specs.Places.{shard_of}
 use Rattle.poolsteps.proofs.SlotLemmas.{in-row, row-small}
-use Rattle.shardpool.proofs.free.Starts.{starts-length, start-at, start-is}
-use Rattle.shardpool.proofs.pool.Places.start.Goals.{After-index}
+use Rattle.shardpool.proofs.free.Starts.{shard-is}
+use Rattle.shardpool.proofs.free.Words.{stands-from}
 use Rattle.shardpool.proofs.pool.Places.start.Goals as goal
 
--- the start of the place's page
-begins : (c : After-index) → c.index.result.now ≡ page_start c.args.self.now.shape (page_of c.args.place)
-begins c =
+pub overflow_mul-shard_of : goal.overflow_mul-shard_of
+overflow_mul-shard_of c =
     let s = c.args.self.now in
-    let page : c.args.place % 65536 / 4096 ≡ page_of c.args.place = omega arith in
-    let below : page_of c.args.place < s.shape.pages = (is_place-parts s.shape c.args.place c.requires).1 in
-    c.index.ensures
-    ∙ ((λ i. slice_index_or (s.starts_are i) (page i) c.index.result.now) ∙ start-at s.shape s.shape.pages (page_of c.args.place) c.index.result.now below)
-
-stands : (c : After-index) → c.shard_of.result * c.args.self.now.apart + c.index.result.now + c.args.place % 4096 ≡ slot_start c.args.self.now.shape c.args.place
-stands c =
-    let s = c.args.self.now in
-    ap (λ (shard : ℕ). shard * s.apart + c.index.result.now + c.args.place % 4096) c.shard_of.ensures
-    ∙ start-is s.shape c.args.place s.apart c.index.result.now s.apart_is (begins c)
-
-pub overflow_mul-result : goal.overflow_mul-result
-overflow_mul-result c =
-    let s = c.args.self.now in
-    let at = start-is s.shape c.args.place s.apart (page_start s.shape (page_of c.args.place)) s.apart_is refl in
+    let at = shard-is s.shape (shard_of c.args.place) s.apart s.apart_is in
+    let from = stands-from s.shape c.args.place (shard_of c.args.place) refl in
     let low = in-row s.shape c.args.place c.requires in
     let small = row-small s.shape s.checked in
-    subst (λ (shard : ℕ). Fits w32 (shard * s.apart)) (sym c.shard_of.ensures) (omega (arith, at, low, small))
+    subst (λ (shard : ℕ). Fits w32 (shard * s.apart)) (sym c.shard_of.ensures) (omega (arith, at, from, low, small))
 
-pub index-requires : goal.index-requires
-index-requires c =
-    let s = c.args.self.now in
-    omega (arith, ap length s.starts_are ∙ starts-length s.shape s.shape.pages, (is_place-parts s.shape c.args.place c.requires).1)
+pub start_from-requires-clause-place : goal.start_from-requires-clause-place
+start_from-requires-clause-place c = c.requires
 
-pub overflow_add-result : goal.overflow_add-result
-overflow_add-result c =
-    let s = c.args.self.now in
-    omega (arith, stands (goal.at.overflow_add-result c).After-index, in-row s.shape c.args.place c.requires, row-small s.shape s.checked)
-
-pub overflow_add-result-2 : goal.overflow_add-result-2
-overflow_add-result-2 c =
-    let s = c.args.self.now in
-    omega (arith, stands (goal.at.overflow_add-result-2 c).After-index, in-row s.shape c.args.place c.requires, row-small s.shape s.checked)
-
-pub returns-clause-start : goal.returns-clause-start
-returns-clause-start c = stands (goal.at.returns-clause-start c).After-index
-
-pub returns-clause-below : goal.returns-clause-below
-returns-clause-below c = subst (λ n. n < slot_row c.args.self.now.shape) (sym (returns-clause-start c)) (in-row c.args.self.now.shape c.args.place c.requires)
+pub start_from-requires-clause-first : goal.start_from-requires-clause-first
+start_from-requires-clause-first c =
+    let s = c.args.self.now in ap (λ (shard : ℕ). shard * s.apart) c.shard_of.ensures ∙ shard-is s.shape (shard_of c.args.place) s.apart s.apart_is
