@@ -16,22 +16,21 @@ impl<T: Clear> Room<T> {
     where
         T: Default,
     {
-        match self.create_by_last(|post| self.carried(post), Joint::come) {
-            // SAFETY: the handle is a user of the lane.
-            Some(begun) => Ok(FarBegun(Spent::new(unsafe { begun.far() }))),
-            None => self.create_owned_further(),
-        }
+        let begun = match self.create_by_last(|post| self.carried(post), Joint::come) {
+            Some(begun) => begun,
+            None => Begun::by_parts(self.create_owned_further())?,
+        };
+        // SAFETY: the handle is a user of the lane.
+        Ok(FarBegun(Spent::new(unsafe { begun.far() })))
     }
 
     #[cold]
     #[inline(never)]
-    fn create_owned_further(&self) -> Result<FarBegun<T>, CreateError>
+    fn create_owned_further(&self) -> Result<Begun<'_, T, Far>, CreateError>
     where
         T: Default,
     {
-        let begun = self.create_growing(|| self.create_in_shared(Joint::come))?;
-        // SAFETY: the handle is a user of the lane.
-        Ok(FarBegun(Spent::new(unsafe { begun.far() })))
+        self.create_growing(|| self.create_in_shared(Joint::come))
     }
 
     /// The block that the thread carries, where that is of the lane of this seat. (Of types that are emptied under the lock it has none.)

@@ -49,7 +49,7 @@ impl<T: Clear> Room<T> {
     {
         let begun = match self.known() {
             Some(own) => own.create(|own, block| self.create_apart(own, block)),
-            None => self.create_by_caller(),
+            None => Begun::by_parts(self.create_by_caller()),
         };
         begun.map(Spent::new)
     }

@@ -202,7 +202,7 @@ impl<'s, T: Clear, P: Stands<'s, T>> Own<'s, T, P> {
         match self.turn().create_short(block) {
             Ok(begun) => Ok(begun),
             Err(Short::Failed(error)) => Err(error),
-            Err(Short::NoPlace(block)) => self.create_behind(block, apart),
+            Err(Short::NoPlace(block)) => Begun::by_parts(self.create_behind(block, apart)),
         }
     }
 

@@ -76,7 +76,7 @@ impl<'s, T: Clear> Post<'s, T> {
         });
         match begun.ok_or(NotShared)? {
             Ok(begun) => self.shared_create_end(begun, come),
-            Err(wanted) => self.shared_create_new(wanted, come),
+            Err(wanted) => self.shared_create_new(wanted, come).map(Begun::by_parts),
         }
     }
 
@@ -90,7 +90,9 @@ impl<'s, T: Clear> Post<'s, T> {
         match begun {
             Ok(begun) => Ok(Ok(begun.shared())),
             Err(Short::Failed(error)) => Ok(Err(error)),
-            Err(Short::NoPlace(block)) => self.shared_create_apart(block, come),
+            Err(Short::NoPlace(block)) => {
+                self.shared_create_apart(block, come).map(Begun::by_parts)
+            }
         }
     }
 

@@ -161,6 +161,25 @@ pub(crate) struct Begun<'s, T: Clear, W> {
 }
 
 impl<'s, T: Clear, W> Begun<'s, T, W> {
+    /// What a function out of line answers, by its parts: what is made in line in its stead stays in registers then.
+    #[inline(always)]
+    pub(super) fn by_parts<E>(begun: Result<Self, E>) -> Result<Self, E> {
+        let Begun {
+            post,
+            key,
+            start,
+            block,
+            way,
+        } = begun?;
+        Ok(Begun {
+            post,
+            key,
+            start,
+            block,
+            way,
+        })
+    }
+
     #[inline(always)]
     pub(super) fn new(
         post: Post<'s, T>,
