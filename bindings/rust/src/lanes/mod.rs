@@ -10,7 +10,7 @@
 //! | `publish`, `downgrade` | that the lane made the filling, and hasn't published it (`Made`) | a [`Begun`](token::Begun), which has the lane's seat, and is spent by the call |
 //! | `release`, `read` | that the lane has a reference to the key | a [`Held`](token::Held), likewise |
 //! | `close` | all lanes of the pool, each once | `Segment::end` takes the seats as `open` gave them; that the pool is ours alone then is told by `&mut`, for a lane in hand borrows it, or has a share of it, and by `Room::shares`, for a lane of owned handles has a share of its memory |
-//! | the emptier of objects | that it empties, keeps the room, takes no memory and ends | [`Emptying`](emptying::Emptying), which takes a block out, or runs this crate's `clear` and std's |
+//! | the emptier of objects | that it empties, keeps the room, takes no memory and ends | [`Emptying`](emptying::Emptying), which takes a block out, or runs this crate's `clear` and std's; or leaves a plain object in another lane's place as it is, which is emptied as that lane's next filling of the place begins ([`left`](emptying::left)), in front of all that reads it |
 //! | (a block of a lane) | that its chunk is there for as long as the block is anywhere (`Block::begin`) | no block leaves its segment, whose chunks go at its close; what a call gave borrows the pool or has a share of its room, so that the close comes behind |
 //!
 //! A get or a clear of a key that its segment [lacks](segment::Segment::lacks), as a load tells, makes no call.

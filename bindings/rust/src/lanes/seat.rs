@@ -5,7 +5,7 @@ use super::turn::Turn;
 use super::ProvedLane;
 use crate::clear::Clear;
 use crate::erased::keybits;
-use crate::object::{Block, Chain, Chunks, Returned};
+use crate::object::{Block, Chain, Chunks, Object, Returned};
 use crate::sync::{self, AtomicBool, AtomicU32, Ordering};
 use std::cell::UnsafeCell;
 use std::marker::PhantomData;
@@ -18,6 +18,8 @@ pub(super) struct Seat<T: Clear> {
     pub(super) lane: UnsafeCell<ManuallyDrop<ProvedLane<T>>>,
     pub(super) store: UnsafeCell<Store<T>>,
     pub(super) number: u32,
+    /// The address of the first object of the lane's own places, and how many bytes those take, side by side.
+    own: (usize, usize),
     /// The blocks that other lanes returned, by the number of those.
     returned: Vec<Returned<T>>,
     /// Whether any ever came.
@@ -90,8 +92,12 @@ unsafe impl<T: Clear + Send> Send for Seat<T> {}
 
 impl<T: Clear> Seat<T> {
     pub(super) fn new(lane: ProvedLane<T>, returned: Vec<Returned<T>>) -> Seat<T> {
+        let (objects, places) = (&lane.state.objects, lane.state.shape.shard_places());
+        let first = objects.base().ptr.wrapping_add(objects.first());
+        let bytes = places as usize * mem::size_of::<Object<T>>();
         Seat {
             number: lane.number(),
+            own: (first as usize, bytes),
             lane: UnsafeCell::new(ManuallyDrop::new(lane)),
             store: UnsafeCell::new(Store {
                 spare: Chain::new(),
@@ -109,6 +115,13 @@ impl<T: Clear> Seat<T> {
             joint: UnsafeCell::new(Joint::default()),
             segment: UnsafeCell::new(ptr::null()),
         }
+    }
+
+    /// Whether an object of the segment's places stands in one of the lane's own.
+    #[inline(always)]
+    pub(super) fn has(&self, object: &Object<T>) -> bool {
+        let (first, bytes) = self.own;
+        (ptr::from_ref(object) as usize).wrapping_sub(first) < bytes
     }
 
     /// A block that the lane of this number returns.

@@ -8,7 +8,6 @@ pub(crate) use block::{Block, Chain, Returned, FINDS_LOST};
 pub(crate) use chunk::{Chunk, Chunks, Crowded};
 pub(crate) use memory::{Counted, Fixed, Later};
 
-use crate::clear::Clear;
 use crate::erased::slotcell;
 use crate::shim::Global;
 use std::mem::{self, ManuallyDrop};
@@ -33,17 +32,6 @@ impl<T> Object<T> {
     #[inline]
     pub(crate) fn unhook(&mut self) -> Option<Block<T>> {
         self.block.take()
-    }
-
-    /// Empties its block, which stays. The lane whose it is, if there is one.
-    #[inline(always)]
-    pub(crate) fn empty_block(&mut self) -> Option<u32>
-    where
-        T: Clear,
-    {
-        let block = self.block.as_mut()?;
-        block.clear();
-        Some(block.home())
     }
 
     /// Where the object stands.
