@@ -144,6 +144,7 @@ impl<T: Clear> Pool<T> {
 
     /// A create where the lane's own list is empty. Apart, so that the short way of a create stands where it is called;
     /// where that is one place alone, the compiler may put this there too.
+    #[inline(always)]
     fn create_apart(&self, lane: &mut Lane<T>) -> Result<Filling<T>, CreateFault> {
         // A proof knows the invariant of a lane once a field of it is seen.
         let _ = &lane.state;
