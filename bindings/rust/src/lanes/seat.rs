@@ -18,7 +18,8 @@ pub(super) struct Seat<T: Clear> {
     pub(super) lane: UnsafeCell<ManuallyDrop<ProvedLane<T>>>,
     pub(super) store: UnsafeCell<Store<T>>,
     pub(super) number: u32,
-    /// The address of the first object of the lane's own places, and how many bytes those take, side by side.
+    /// The address of the first object of the lane's own places, and how many bytes those take, side by side. (It is asked within calls,
+    /// which have the lane itself.)
     own: (usize, usize),
     /// The blocks that other lanes returned, by the number of those.
     returned: Vec<Returned<T>>,
