@@ -2,11 +2,12 @@
 //! lanes change by themselves stand 128 bytes apart, as a processor may fetch two lines of 64 together, and the words of
 //! neighbouring shards farther. No step changes the first words: the very first is read where seats are cut and joined,
 //! and behind it each lane has one that it looks at.
-ghost use Rattle.std.specs.Prelude.{◌≡◌, ◌<◌, ℕ, true, None, Option, length, slice_get, Some, IfSome};
+ghost use Rattle.std.specs.Prelude.{◌≡◌, ◌+◌, ◌<◌, ℕ, true, None, Option, length, slice_get, Some, IfSome};
 ghost use Rattle.keybits.specs.Shapes.{IsShape, position_of, is_place};
 ghost use Rattle.keybits.specs.Places.{shard_of};
 ghost use Rattle.keybits.specs.declared.step.Word.TheVariants as words;
 ghost use Rattle.poolsteps.specs.Share.{Share};
+ghost use Rattle.poolsteps.specs.declared.find.TheConstants.{LIVES_START};
 ghost use Rattle.poolsteps.specs.Layout.{index_in, links_start, word_count, words_in, page_count, page_row, page_rows, slot_start, slot_row, slot_count, slot_index, shard_start};
 ghost use Rattle.steplaws.specs.MomentLaws.{AreFirst};
 
@@ -63,7 +64,16 @@ pub fn life_word(shape: &Shape, place: u32, position: usize) -> usize
     ensures word { result ≡ index_in shape.now (words.Life place) }
     ensures inside { result < word_count shape.now }
 {
-    LIVES_START + slot_start(shape, place, position)
+    life_at(slot_start(shape, place, position))
+}
+
+/// Where the lifecycle word of a place stands, which stands there in each row.
+#[inline]
+pub fn life_at(start: usize) -> usize
+    requires { start < 4194304 }
+    ensures { result ≡ LIVES_START + start }
+{
+    LIVES_START + start
 }
 
 /// Where the link word of a place stands, which has this position among the places of the pool.

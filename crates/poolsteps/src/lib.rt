@@ -31,7 +31,8 @@ pub use directory_end::close_directory;
 pub use grid::{Board, Grid, Hand, PoolRule, Spot};
 pub use laws::{acts_law, references_law, shares_law};
 pub use layout::{
-    SHARDS_APART, life_word, link_word, shard_start, slot_at, slot_row, slot_start, stack_word,
+    SHARDS_APART, life_at, life_word, link_word, shard_start, slot_at, slot_row, slot_start,
+    stack_word,
 };
 pub use objects::Objects;
 pub use rows::BYTES_APART;
