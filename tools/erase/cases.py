@@ -240,6 +240,11 @@ KEPT = [
     ("a number of a call", SHAPE.format("at", "next(n)", ""), "let _ = shape.at(next(n));"),
     ("a number of what may write", SHAPE.format("grow", "n", "mut "), "let _ = shape.grow(n);"),
     ("a look by its definition", LOOK.format("own_word", "APART * (1 + lane as usize)"), "fn look(&self, hand: &mut Hand, lane: u32) {}"),
+    (
+        "room of this name that is another",
+        "const BYTES_APART: usize = 128;\n\nstruct S {\n    unused: [u64; BYTES_APART / 8],\n}\n",
+        "unused: [u64; BYTES_APART / 8]",
+    ),
     ("a type behind // in a string", 'fn f(alloc: Global) -> u32 {\n    g("//", Vec::new(alloc))\n}\n', "use crate::shim::Vec;"),
 ]
 
@@ -282,6 +287,7 @@ WRONG = [
         SHAPE.format("grow", "n", "mut ").replace("let _ = shape.grow(n);", ""),
     ),
     ("a value by a call", ALIKE.format("count", "next(hand)"), ALIKE_WRITTEN.format("count", "next(hand)")),
+    ("another row without its room", "struct S {\n    words: [u64; BYTES / 8],\n}\n", "struct S {\n    words: [u64; 0],\n}\n"),
 ]
 
 # A file, and what is left of it.

@@ -5,6 +5,7 @@
 - A vector whose values are copied into a row or into a table, and which nobody uses any more, becomes it (`reserved_row`, `new_table`).
 - A look whose answer nobody takes goes (`look`): a load of a word that no step changes.
 - A number that nobody takes goes (`number`): what a shape answers.
+- The room that keeps lanes apart goes (`apart`): each lane of the crate is in a seat, on lines of the cache of its own.
 - Words on inlining are added (`inline`).
 
 Each is bound to one form of the source, by what its names are defined as. Nearly such a form is refused, or stays as it is.
@@ -61,6 +62,8 @@ class Shorter:
             return self.reserved_row(source, i)
         if self.is_of_kit(source, i, "atomic_table", "Table") and behind == "::":
             return self.new_table(source, i)
+        if self.is_of_kit(source, i, "poolsteps", "BYTES_APART"):
+            return self.apart(source, i)
         if text == "let" and behind == "_":
             return self.number(source, i)
         return text == "self" and source.at(i - 1) in (";", "{", "}") and self.look(source, i)
@@ -130,6 +133,17 @@ class Shorter:
             s.refuse(i, "a form of Table::new")
         self.counts["rewritten: words that become the table's"] += 1
         s.drop(a + 1, b)
+        return True
+
+    def apart(self, source, i):
+        """`[u64; BYTES_APART / 8]`, and `[0; BYTES_APART / 8]`: so many unused words. Whether it is such a row, which then has none."""
+        s = source
+        if s.at(i - 1) != ";" or [s.at(i + k) for k in (1, 2, 3)] != ["/", "8", "]"] or s.at(i - 2) not in ("u64", "0"):
+            return False
+        self.counts["rewritten: room that keeps lanes apart"] += 1
+        s.edits.append((s.tokens[i].start, s.tokens[i + 2].end, "0"))
+        for k in range(i, i + 3):
+            s.done[k] = True
         return True
 
     def look(self, source, i):

@@ -330,6 +330,7 @@ class Walk:
             ("clone that can't fail", "Ok ( * self )", "* self"),
             ("words that become the table's", ". as_slice ( ) , slots", ", slots"),
             ("vector that becomes a row", ". as_slice ( ) ) } ) .", ") } ) ."),
+            ("room that keeps lanes apart", "BYTES_APART / 8 ]", "0 ]"),
         ]
         for kind, old, new in table:
             old, new = old.split(), new.split()

@@ -67,9 +67,13 @@ free_places z shard free chain threads = returned_places z shard chain threads +
 abbrev pub part_by : ℕ → Part
 part_by bits = if bits == 1 then Present else (if bits == 2 then Retired else (if bits == 3 then Marked else Filling))
 
--- what a place of this page is, where so many pages are opened and its word is this one, or 0 where it is free
+-- what a place of an opened page is whose word is this one, or 0 where it is free
+abbrev pub part_by_word : ℕ → Part
+part_by_word word = if word == 0 then Free else part_by (state_in word)
+
+-- what a place of this page is, where so many pages are opened
 abbrev pub part_in : ℕ → ℕ → ℕ → Part
-part_in opened page word = if nat_le opened page then Unopened else (if word == 0 then Free else part_by (state_in word))
+part_in opened page word = if nat_le opened page then Unopened else part_by_word word
 
 -- a lifecycle word that is neither 0 nor that of a published or a retired place
 abbrev pub IsIdleWord : ℕ → Type 0

@@ -1,8 +1,9 @@
 -- Where the shares stand that a lane's rows have, and where a reference's place stands.
-use Rattle.std.specs.Prelude.{◌≡◌, ℕ, zero, suc, ◌+◌, ◌*◌, List, [], ◌∷◌, ◌++◌, Some, slice_get}
+use Rattle.std.specs.Prelude.{◌≡◌, ℕ, zero, suc, ◌+◌, ◌-◌, ◌*◌, List, [], ◌∷◌, ◌++◌, replicate, Some, slice_get}
 use denote.RawPtr.{Ptr}
 use Rattle.poolsteps.specs.Share.{Share}
 use Rattle.keybits.specs.declared.shape.Shape.{Shape}
+use Rattle.keybits.specs.declared.shape.TheConstants.{MOST_PAGES}
 use Rattle.keybits.specs.Shapes.{IsShape, page_start}
 use Rattle.keybits.specs.Keys.{place_of}
 use Rattle.poolsteps.specs.Layout.{slot_start}
@@ -21,6 +22,10 @@ pages_code z = 32 * z.first_page + z.pages
 abbrev pub page_starts : Shape → ℕ → List ℕ
 page_starts z zero = []
 page_starts z (suc pages) = page_starts z pages ++ page_start z pages ∷ []
+
+-- the same, with a zero for each further page that a shape may have
+abbrev pub starts_row : Shape → ℕ → List ℕ
+starts_row z pages = page_starts z pages ++ replicate (MOST_PAGES - pages) 0
 
 -- in each pool with this number the key's place stands here
 abbrev pub StandsIn : ℕ → ℕ → ℕ → Type 0

@@ -13,13 +13,15 @@ ghost use Rattle.shardpool.specs.Stores.{AreOfShard};
 ghost use Rattle.seqpool.specs.declared.act.Act.{Act};
 ghost use Rattle.shardpool.specs.Tokens.{LaneOf};
 ghost use Rattle.shardpool.specs.Closings.{none_counted, counted, places_counted, IsCensus, AreLast};
-ghost use Rattle.shardpool.specs.Marks.{IsRow, Blanks, IsThread, AreThreads, stacked, AreFreePlaces, returned_places, part_in, IsIdleWord, Counts};
+ghost use Rattle.shardpool.specs.Marks.{IsRow, Blanks, IsThread, AreThreads, stacked, AreFreePlaces, returned_places, part_by_word, IsIdleWord, Counts};
 
 use crate::pool::LaneState;
 use core::slots::Slots;
 use freelists::LocalFree;
-use keybits::{Life, Place, Shape, State, link_to, linked_place};
-use poolsteps::{Base, Objects, Slot, life_word, link_word, out_cell, slot_start, stack_word};
+use keybits::{Life, Shape, State, link_to, linked_place};
+use poolsteps::{
+    Base, Objects, Slot, life_at, life_word, link_word, out_cell, shard_start, stack_word,
+};
 use std::alloc::Global;
 
 /// How many places of a pool were what when it was closed. The six numbers add up to all its places.
@@ -249,13 +251,14 @@ fn out_cells<T: Drop>(
     ensures drains { DrainsShard shape.now shard (words_in shape.now (slots_items words.now)).life slots.old slots.new }
 {
     let places = shape.shard_places() as usize;
+    let first = shard_start(shape, shard);
     let opened_places = places_of_pages(shape, opened);
     for index in 0..opened_places as usize {
         let position = shard as usize * places + index;
         let place = shape.place_at(position);
-        let word = *words.get(life_word(shape, place, position));
+        let word = *words.get(life_at(first + index));
         if let Some(whole) = out_cell(directory, shape, place, position, word, slots) {
-            objects.bring_back(slot_start(shape, place, position), whole);
+            objects.bring_back(first + index, whole);
         }
     }
 }
@@ -268,25 +271,18 @@ fn count_shard(shape: &Shape, shard: u32, opened: u32, words: &Slots<u64>, censu
     requires room { places_counted census.old + shard_places shape.now ≤ 4294967295 }
     ensures { Counts shape.now shard opened (slots_items words.now) census.old census.new }
 {
-    let places = shape.shard_places() as usize;
+    let first = shard_start(shape, shard);
     let opened_places = places_of_pages(shape, opened);
     for index in 0..opened_places as usize {
-        let position = shard as usize * places + index;
-        let place = shape.place_at(position);
-        let word = *words.get(life_word(shape, place, position));
-        let page = u32::from(Place::of_number(place).page);
-        census.count(part_of(opened, page, word));
+        census.count(part_of(*words.get(life_at(first + index))));
     }
     census.unopened += shape.shard_places() - opened_places;
 }
 
-/// What a place of this page is, where so many pages are opened, by its lifecycle word, which is 0 where it is marked.
-fn part_of(opened: u32, page: u32, word: u64) -> Part
-    ensures { result ≡ part_in opened page word }
+/// What a place of an opened page is, by its lifecycle word, which is 0 where it is marked.
+fn part_of(word: u64) -> Part
+    ensures { result ≡ part_by_word word }
 {
-    if page >= opened {
-        return Part::Unopened;
-    }
     if word == 0 {
         return Part::Free;
     }

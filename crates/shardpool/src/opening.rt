@@ -175,7 +175,6 @@ fn first_state<T: Clear + Drop>(
     // (What is dropped with least ado comes first: each way out behind it drops it.)
     let last_pushed = vec![in alloc; 0; shape.lanes as usize].ok()?;
     let free = LocalFree::new(alloc, shard, shape.first_page, shape.pages)?;
-    let places = Places::of(alloc, shape)?;
     let rows = first_rows(alloc, slot_row(shape))?;
     let objects = Objects::new(
         alloc,
@@ -192,7 +191,7 @@ fn first_state<T: Clear + Drop>(
         free,
         pages: Pages::new(shard, shape.first_page, shape.pages),
         objects,
-        places,
+        places: Places::of(shape),
         alloc,
     })
 }

@@ -6,11 +6,11 @@ ghost use Rattle.poolsteps.specs.declared.layout.TheConstants.{SHARDS_APART};
 ghost use Rattle.poolsteps.specs.Grids.{IsSpot};
 ghost use Rattle.keybits.specs.Shapes.{IsShape, shard_places};
 ghost use Rattle.keybits.specs.SameShapes.{IsShape-prop};
-ghost use Rattle.shardpool.specs.Rows.{pages_code, page_starts};
+ghost use Rattle.shardpool.specs.Rows.{pages_code, starts_row};
 
 use crate::closing::HandRow;
 use freelists::{LocalFree, Pages};
-use keybits::{PAGE_NUMBERS, SHARD_NUMBERS, Shape, place_of, shard_of};
+use keybits::{MOST_PAGES, PAGE_NUMBERS, SHARD_NUMBERS, Shape, place_of, shard_of};
 use poolsteps::{BYTES_APART, Directory, Grid, Hand, Objects, SHARDS_APART, Slot, Spot, Tally};
 use slotcell::Clear;
 use std::alloc::Global;
@@ -155,32 +155,31 @@ pub(crate) struct Places {
     pub(crate) code: u32,
     /// How far the places of a shard stand from those of the next.
     pub(crate) apart: u32,
-    /// Where each page begins among the places of its shard.
-    pub(crate) starts: Vec<u32>,
+    /// Where each page begins among the places of its shard. (Behind the last, zeros.)
+    pub(crate) starts: [u32; MOST_PAGES as usize],
     ghost checked: { IsShape shape } by { IsShape-prop shape },
     ghost code_is: { code ≡ pages_code shape },
     ghost apart_is: { apart ≡ shard_places shape + SHARDS_APART },
-    ghost starts_are: { starts.items ≡ page_starts shape shape.pages },
+    ghost starts_are: { starts ≡ starts_row shape shape.pages },
 }
 
 impl Places {
-    ghost use Rattle.std.specs.Prelude.{◌≡◌, ◌<◌, true, IfSome};
+    ghost use Rattle.std.specs.Prelude.{◌≡◌, ◌<◌, true};
     ghost use Rattle.keybits.specs.Places.{shard_of};
     ghost use Rattle.keybits.specs.Shapes.{is_place};
     ghost use Rattle.poolsteps.specs.Layout.{slot_start, slot_row, shard_start};
 
-    /// The places of a pool of this shape. None where memory was refused.
-    pub(crate) fn of(alloc: Global, shape: &Shape) -> Option<Places>
+    /// The places of a pool of this shape.
+    pub(crate) fn of(shape: &Shape) -> Places
         requires { IsShape shape.now }
-        ensures { IfSome result (λ places. places.shape ≡ shape.now) }
+        ensures { result.shape ≡ shape.now }
     {
-        let starts = page_starts(alloc, shape)?;
-        Some(Places {
+        Places {
             shape: *shape,
             code: 32 * shape.first_page + shape.pages,
             apart: shape.shard_places() + SHARDS_APART as u32,
-            starts,
-        })
+            starts: page_starts(shape),
+        }
     }
 
     /// Where a place of the pool stands.
@@ -206,16 +205,16 @@ impl Places {
     }
 }
 
-/// Where each page begins among the places of its shard. None where memory was refused.
-fn page_starts(alloc: Global, shape: &Shape) -> Option<Vec<u32>>
+/// Where each page begins among the places of its shard, and zeros behind the last.
+fn page_starts(shape: &Shape) -> [u32; MOST_PAGES as usize]
     requires { IsShape shape.now }
-    ensures { IfSome result (λ starts. starts.items ≡ page_starts shape.now shape.now.pages) }
+    ensures { result ≡ starts_row shape.now shape.now.pages }
 {
-    let mut starts = Vec::with_capacity(alloc, shape.pages as usize).ok()?;
+    let mut starts = [0; MOST_PAGES as usize];
     for page in 0..shape.pages {
-        starts.push_reserved(shape.index(page * PAGE_NUMBERS) as u32);
+        starts[page as usize] = shape.index(page * PAGE_NUMBERS) as u32;
     }
-    Some(starts)
+    starts
 }
 
 /// So many bytes, at an end of what a lane writes in each call.

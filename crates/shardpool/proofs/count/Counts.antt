@@ -1,7 +1,7 @@
 -- A census counts the places of a shard one after another.
 use Rattle.std.proofs.Common.{◌≡◌, ℕ, zero, suc, ◌+◌, ◌-◌, ◌*◌, ◌<◌, ◌≤◌, Bool, true, cond, eqb, List, [], ◌∷◌, ◌++◌, length, replicate, Some, refl, ap, sym, ◌∙◌, ⊎_elim, arith, length-append}
 use Rattle.std.specs.Prelude.{slice_get, min}
-use Rattle.std.proofs.lemmas.Bool.{cases_lt, le-leb}
+use Rattle.std.proofs.lemmas.Bool.{cases_lt, le-leb, lt-leb}
 use Rattle.std.proofs.lemmas.List.{get_or_append_left, get_or-append-add}
 use Rattle.std.proofs.lemmas.Option.{slice_get-get_or}
 use mathlib.Core.Logic.{dite}
@@ -10,14 +10,15 @@ use Rattle.keybits.specs.declared.shape.Shape.{Shape}
 use Rattle.keybits.specs.Places.{shard_of, page_of, slot_of}
 use Rattle.keybits.specs.Shapes.{is_place, all_places, page_start, shard_places, index_of, position_of}
 use Rattle.keybits.specs.Words.{state_in}
-use Rattle.keybits.proofs.ShapeLemmas.{is_place-parts, index-lt, start-le, index_of-lt, index_of-injective}
+use Rattle.keybits.proofs.ShapeLemmas.{is_place-parts, index-lt, start-le, index_of-lt}
 use Rattle.std.proofs.lemmas.Nat.{same_from_place, mul-add-lt}
-use Rattle.poolsteps.specs.Layout.{words_in}
+use Rattle.poolsteps.specs.Layout.{words_in, slot_start, slot_row, shard_start}
+use Rattle.shardpool.proofs.free.Words.{stands-from}
 use Rattle.shardpool.specs.declared.census.Census.{Census}
 use Rattle.shardpool.specs.declared.census.Part.{Part}
 use Rattle.shardpool.specs.declared.census.Part.TheVariants.{Free, Unopened, Filling, Present, Marked, Retired}
 use Rattle.shardpool.specs.Closings.{counted, all_counted, places_counted}
-use Rattle.shardpool.specs.Marks.{part_by, part_in, Counts}
+use Rattle.shardpool.specs.Marks.{part_by, part_by_word, part_in, Counts}
 
 -- ---- sums
 
@@ -66,20 +67,19 @@ pub record CountsTo (z : Shape) (shard opened : ℕ) (words : List ℕ) (index :
 pub counts-none : (z : Shape) (shard opened : ℕ) (words : List ℕ) (census : Census) → CountsTo z shard opened words 0 census census
 counts-none z shard opened words census = record { parts = []; wide = refl; each = λ place inside own low. absurd (omega arith); counts = refl }
 
-pub counts-more : (z : Shape) (shard opened : ℕ) (words : List ℕ) (index place : ℕ) (part : Part) (old now new : Census) → CountsTo z shard opened words index old now
-    → is_place z place ≡ true → shard_of place ≡ shard → index_of z place ≡ index → part ≡ part_in opened (page_of place) ((words_in z words).life place)
+pub counts-more : (z : Shape) (shard opened : ℕ) (words : List ℕ) (index : ℕ) (part : Part) (old now new : Census) → CountsTo z shard opened words index old now
+    → ((place : ℕ) → is_place z place ≡ true → shard_of place ≡ shard → index_of z place ≡ index → part ≡ part_in opened (page_of place) ((words_in z words).life place))
     → new ≡ counted now part → CountsTo z shard opened words (index + 1) old new
-counts-more z shard opened words index place part old now new h inside own at is counts = record {
+counts-more z shard opened words index part old now new h is counts = record {
   parts = h.parts ++ part ∷ [];
   wide = length-append h.parts (part ∷ []) ∙ ap (λ (n : ℕ). n + 1) h.wide;
-  each = λ other other_inside other_own low. dite (ℕ_discrete (index_of z other) index)
+  each = λ place inside own low. dite (ℕ_discrete (index_of z place) index)
       (λ here.
-      let same : other ≡ place = index_of-injective z other place other_inside inside (other_own ∙ sym own) (here ∙ sym at) in
       let last : slice_get (h.parts ++ part ∷ []) (length h.parts + 0) ≡ Some part = get-back h.parts (part ∷ []) 0 (omega arith) in
       let wide = h.wide in
-      let to : index_of z other ≡ length h.parts + 0 = omega arith in
-      ap (λ (n : ℕ). slice_get (h.parts ++ part ∷ []) n) to ∙ (last ∙ ap Some (is ∙ ap (λ (p : ℕ). part_in opened (page_of p) ((words_in z words).life p)) (sym same))))
-      (λ before. let wide = h.wide in get-front h.parts (part ∷ []) (index_of z other) (omega arith) ∙ h.each other other_inside other_own (omega arith));
+      let to : index_of z place ≡ length h.parts + 0 = omega arith in
+      ap (λ (n : ℕ). slice_get (h.parts ++ part ∷ []) n) to ∙ (last ∙ ap Some (is place inside own here)))
+      (λ before. let wide = h.wide in get-front h.parts (part ∷ []) (index_of z place) (omega arith) ∙ h.each place inside own (omega arith));
   counts = counts ∙ (ap (λ (c : Census). counted c part) h.counts ∙ sym (counted-append old h.parts (part ∷ [])));
 }
 
@@ -136,6 +136,20 @@ unopened-from z opened place inside high = ⊎_elim
     (λ (is : opened ≤ page_of place). is)
     (cases_lt (page_of place) opened)
 
+-- a place before those of unopened pages is of an opened one
+pub opened-below : (z : Shape) (opened place : ℕ) → is_place z place ≡ true → index_of z place < page_start z (min opened z.pages) → page_of place < opened
+opened-below z opened place inside low = ⊎_elim
+    (λ (is : page_of place < opened). is)
+    (λ (high : opened ≤ page_of place).
+    let parts = is_place-parts z place inside in
+    let all = start-le z.first_page (min opened z.pages) (page_of place) (omega (arith, high, parts.1)) in
+    absurd (omega (arith, low, all)))
+    (cases_lt (page_of place) opened)
+
+-- what a place of an opened page is, its word tells
+pub part-opened : (opened page word : ℕ) → page < opened → part_by_word word ≡ part_in opened page word
+part-opened opened page word low = ap (λ (b : Bool). cond b Unopened (part_by_word word)) (sym (lt-leb opened page low))
+
 pub opened-few : (z : Shape) (opened : ℕ) → page_start z (min opened z.pages) ≤ shard_places z
 opened-few z opened = start-le z.first_page (min opened z.pages) z.pages (omega arith)
 
@@ -148,6 +162,14 @@ counts-room z shard opened words index old now h =
 -- a position in a shard is one below all places, and the place there is of this shard and index
 pub position-below : (z : Shape) (shard index : ℕ) → shard < z.lanes → index < shard_places z → shard * shard_places z + index < all_places z
 position-below z shard index low inside = let step = mul-add-lt shard (shard_places z) index z.lanes low inside in omega (arith, step)
+
+-- where the lifecycle word of a place of the shard stands that has this index
+pub start-below : (z : Shape) (shard index : ℕ) → shard < z.lanes → index < shard_places z → shard_start z shard + index < slot_row z
+start-below z shard index low inside = let below = position-below z shard index low inside in omega (arith, low, below)
+
+pub start-is : (z : Shape) (shard index place start : ℕ) → shard_of place ≡ shard → index_of z place ≡ index → start ≡ shard_start z shard + index
+    → start ≡ slot_start z place
+start-is z shard index place start own at here = let from = stands-from z place shard own in omega (arith, from, at, here)
 
 pub at-position : (z : Shape) (shard index place : ℕ) → index < shard_places z → is_place z place ≡ true → position_of z place ≡ shard * shard_places z + index
     → (shard_of place ≡ shard) × (index_of z place ≡ index)

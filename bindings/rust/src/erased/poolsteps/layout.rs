@@ -43,7 +43,13 @@ pub fn shard_start(shape: &Shape, shard: u32) -> usize {
 /// Where the lifecycle word of a place stands, which has this position among the places of the pool.
 #[inline]
 pub fn life_word(shape: &Shape, place: u32, position: usize) -> usize {
-    LIVES_START + slot_start(shape, place, position)
+    life_at(slot_start(shape, place, position))
+}
+
+/// Where the lifecycle word of a place stands, which stands there in each row.
+#[inline]
+pub fn life_at(start: usize) -> usize {
+    LIVES_START + start
 }
 
 /// Where the link word of a place stands, which has this position among the places of the pool.

@@ -28,7 +28,8 @@ pub use directory::Directory;
 pub use directory_end::close_directory;
 pub use grid::{Board, Grid, Hand, Spot};
 pub use layout::{
-    life_word, link_word, shard_start, slot_at, slot_row, slot_start, stack_word, SHARDS_APART,
+    life_at, life_word, link_word, shard_start, slot_at, slot_row, slot_start, stack_word,
+    SHARDS_APART,
 };
 pub use objects::Objects;
 pub use rows::BYTES_APART;

@@ -93,7 +93,8 @@ impl<T> Objects<T> {
 
     /// Whether each own place is here.
     pub(crate) fn has_all(&self) -> bool {
-        self.row.iter().all(|own| !own.is_away())
+        // (Without a way out, so that many are looked at at once.)
+        self.row.iter().fold(true, |all, own| all & !own.is_away())
     }
 
     /// Puts the own places back into the directory, from the last on, which stands below `end`, and answers where the first

@@ -5,9 +5,9 @@
 use crate::shim::{Global, Slots, Vec};
 
 use crate::erased::freelists::LocalFree;
-use crate::erased::keybits::{link_to, linked_place, Life, Place, Shape, State};
+use crate::erased::keybits::{link_to, linked_place, Life, Shape, State};
 use crate::erased::poolsteps::{
-    life_word, link_word, out_cell, slot_start, stack_word, Base, Objects, Slot,
+    life_at, life_word, link_word, out_cell, shard_start, stack_word, Base, Objects, Slot,
 };
 use crate::erased::shardpool::pool::LaneState;
 
@@ -169,13 +169,14 @@ fn out_cells<T>(
     objects: &mut Objects<T>,
 ) {
     let places = shape.shard_places() as usize;
+    let first = shard_start(shape, shard);
     let opened_places = places_of_pages(shape, opened);
     for index in 0..opened_places as usize {
         let position = shard as usize * places + index;
         let place = shape.place_at(position);
-        let word = *words.get(life_word(shape, place, position));
+        let word = *words.get(life_at(first + index));
         if let Some(whole) = out_cell(directory, shape, place, position, word, slots) {
-            objects.bring_back(slot_start(shape, place, position), whole);
+            objects.bring_back(first + index, whole);
         }
     }
 }
@@ -183,24 +184,17 @@ fn out_cells<T>(
 /// The places of a shard are counted, of which so many pages are opened, and whose free places are marked.
 #[inline]
 fn count_shard(shape: &Shape, shard: u32, opened: u32, words: &Slots<u64>, census: &mut Census) {
-    let places = shape.shard_places() as usize;
+    let first = shard_start(shape, shard);
     let opened_places = places_of_pages(shape, opened);
     for index in 0..opened_places as usize {
-        let position = shard as usize * places + index;
-        let place = shape.place_at(position);
-        let word = *words.get(life_word(shape, place, position));
-        let page = u32::from(Place::of_number(place).page);
-        census.count(part_of(opened, page, word));
+        census.count(part_of(*words.get(life_at(first + index))));
     }
     census.unopened += shape.shard_places() - opened_places;
 }
 
-/// What a place of this page is, where so many pages are opened, by its lifecycle word, which is 0 where it is marked.
+/// What a place of an opened page is, by its lifecycle word, which is 0 where it is marked.
 #[inline]
-fn part_of(opened: u32, page: u32, word: u64) -> Part {
-    if page >= opened {
-        return Part::Unopened;
-    }
+fn part_of(word: u64) -> Part {
     if word == 0 {
         return Part::Free;
     }

@@ -131,7 +131,6 @@ fn first_state<T: Clear>(
     // (What is dropped with least ado comes first: each way out behind it drops it.)
     let last_pushed = Vec::filled(alloc, 0, shape.lanes as usize).ok()?;
     let free = LocalFree::new(alloc, shard, shape.first_page, shape.pages)?;
-    let places = Places::of(alloc, shape)?;
     let rows = first_rows(alloc, slot_row(shape))?;
     let objects = Objects::new(
         alloc,
@@ -148,7 +147,7 @@ fn first_state<T: Clear>(
         free,
         pages: Pages::new(shard, shape.first_page, shape.pages),
         objects,
-        places,
+        places: Places::of(shape),
         alloc,
     })
 }

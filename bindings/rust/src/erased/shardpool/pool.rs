@@ -5,7 +5,7 @@
 use crate::shim::{no_bytes, Gapless, Global, Vec};
 
 use crate::erased::freelists::{LocalFree, Pages};
-use crate::erased::keybits::{shard_of, Shape, PAGE_NUMBERS, SHARD_NUMBERS};
+use crate::erased::keybits::{shard_of, Shape, MOST_PAGES, PAGE_NUMBERS, SHARD_NUMBERS};
 use crate::erased::poolsteps::{
     Directory, Grid, Hand, Objects, Slot, Spot, Tally, BYTES_APART, SHARDS_APART,
 };
@@ -100,21 +100,20 @@ pub(crate) struct Places {
     pub(crate) code: u32,
     /// How far the places of a shard stand from those of the next.
     pub(crate) apart: u32,
-    /// Where each page begins among the places of its shard.
-    pub(crate) starts: Vec<u32>,
+    /// Where each page begins among the places of its shard. (Behind the last, zeros.)
+    pub(crate) starts: [u32; MOST_PAGES as usize],
 }
 
 impl Places {
-    /// The places of a pool of this shape. None where memory was refused.
+    /// The places of a pool of this shape.
     #[inline]
-    pub(crate) fn of(alloc: Global, shape: &Shape) -> Option<Places> {
-        let starts = page_starts(alloc, shape)?;
-        Some(Places {
+    pub(crate) fn of(shape: &Shape) -> Places {
+        Places {
             shape: *shape,
             code: 32 * shape.first_page + shape.pages,
             apart: shape.shard_places() + SHARDS_APART as u32,
-            starts,
-        })
+            starts: page_starts(shape),
+        }
     }
 
     /// Where a place of the pool stands.
@@ -131,26 +130,24 @@ impl Places {
     }
 }
 
-/// Where each page begins among the places of its shard. None where memory was refused.
+/// Where each page begins among the places of its shard, and zeros behind the last.
 #[inline]
-fn page_starts(alloc: Global, shape: &Shape) -> Option<Vec<u32>> {
-    let mut starts = Vec::with_capacity(alloc, shape.pages as usize).ok()?;
+fn page_starts(shape: &Shape) -> [u32; MOST_PAGES as usize] {
+    let mut starts = [0; MOST_PAGES as usize];
     for page in 0..shape.pages {
-        starts.push_reserved(shape.index(page * PAGE_NUMBERS) as u32);
+        starts[page as usize] = shape.index(page * PAGE_NUMBERS) as u32;
     }
-    Some(starts)
+    starts
 }
 
 /// So many bytes, at an end of what a lane writes in each call.
 pub(crate) struct Apart {
-    unused: [u64; BYTES_APART / 8],
+    unused: [u64; 0],
 }
 
 impl Apart {
     #[inline]
     pub(crate) fn new() -> Apart {
-        Apart {
-            unused: [0; BYTES_APART / 8],
-        }
+        Apart { unused: [0; 0] }
     }
 }

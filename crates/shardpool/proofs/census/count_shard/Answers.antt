@@ -1,34 +1,39 @@
--- The place at each position of the shard is the one of the next index.
-use Rattle.std.proofs.Common.{◌≡◌, ℕ, ◌+◌, ◌-◌, ◌*◌, ◌<◌, refl, sym, ap, ◌∙◌, subst, arith}
+-- Each word of the shard's opened pages is that of the place with its index.
+use Rattle.std.proofs.Common.{◌≡◌, ℕ, ◌+◌, ◌-◌, ◌<◌, refl, ap, ◌∙◌, arith}
 use Rattle.core.specs.Mem.Slots.{slots_items}
 use Rattle.keybits.specs.declared.step.Word.TheVariants.{Life}
 use Rattle.keybits.specs.Places.{page_of}
 use Rattle.std.specs.Prelude.{min}
-use Rattle.keybits.specs.Shapes.{all_places, page_start}
-use Rattle.shardpool.specs.Marks.{part_in}
-use Rattle.keybits.proofs.ShapeLemmas.{shape_bounds}
-use Rattle.shardpool.proofs.count.Marks.{read-word}
-use Rattle.shardpool.proofs.count.Counts.{counts-more, counts-all, counts-room, position-below, at-position, unopened-from, opened-few}
+use Rattle.keybits.specs.Shapes.{page_start}
+use Rattle.poolsteps.specs.Layout.{words_in, index_in, slot_row}
+use Rattle.poolsteps.proofs.SlotLemmas.{row-small}
+use Rattle.shardpool.specs.Marks.{part_by_word}
+use Rattle.shardpool.proofs.count.Marks.{read-word, is-full}
+use Rattle.shardpool.proofs.count.Counts.{counts-more, counts-all, counts-room, start-below, start-is, unopened-from, opened-below, part-opened, opened-few}
+use Rattle.shardpool.proofs.census.count_shard.Goals.{At-loop-index}
 use Rattle.shardpool.proofs.census.count_shard.Goals as goal
 
-pub overflow_add-position : goal.overflow_add-position
-overflow_add-position c =
+-- the word of this round is one of the shard's
+below : (c : At-loop-index) → c.loop-index.index < c.places_of_pages-opened_places.result → c.shard_start-first.result + c.loop-index.index < slot_row c.args.shape.now
+below c low =
     let z = c.args.shape.now in
-    let same = c.shard_places-places.ensures in
     let few = opened-few z c.args.opened in
     let opened = c.places_of_pages-opened_places.ensures in
-    let below = position-below z c.args.shard c.loop-index.index c.requires.shard (omega arith) in
-    let most = (shape_bounds z c.requires.shape).all in
-    let at = ap (λ (n : ℕ). c.args.shard * n + c.loop-index.index) same in
-    omega (arith, below, most, at)
+    let first = c.shard_start-first.ensures in
+    let at = start-below z c.args.shard c.loop-index.index c.requires.shard (omega (arith, low, few, opened)) in
+    omega (arith, first, at)
 
-pub place_at-place-requires-clause-position : goal.place_at-place-requires-clause-position
-place_at-place-requires-clause-position c =
-    let z = c.args.shape.now in
-    let same = c.shard_places-places.ensures in
-    let few = opened-few z c.args.opened in
-    let opened = c.places_of_pages-opened_places.ensures in
-    subst (λ (n : ℕ). c.args.shard * n + c.loop-index.index < all_places z) (sym same) (position-below z c.args.shard c.loop-index.index c.requires.shard (omega arith))
+pub life_at-requires : goal.life_at-requires
+life_at-requires c =
+    let low = below (goal.at.life_at-requires c).At-loop-index c.loop-index-test.true in
+    let small = row-small c.args.shape.now c.requires.shape in
+    omega (arith, low, small)
+
+pub get-requires : goal.get-requires
+get-requires c =
+    let low = below (goal.at.get-requires c).At-loop-index c.loop-index-test.true in
+    let at = c.life_at.ensures in
+    is-full c.args.shape.now c.args.words.now c.requires.row c.life_at.result (omega (arith, low, at))
 
 pub count-requires : goal.count-requires
 count-requires c =
@@ -39,17 +44,18 @@ count-requires c =
 
 pub loop-index-preserved : goal.loop-index-preserved
 loop-index-preserved c =
-    let z = c.args.shape.now in let words = c.args.words.now in let shard = c.args.shard in let place = c.place_at-place.result in
-    let inside = c.place_at-place.ensures.place in
-    let same = c.shard_places-places.ensures in
-    let few = opened-few z c.args.opened in
+    let z = c.args.shape.now in let words = c.args.words.now in let shard = c.args.shard in
     let opened = c.places_of_pages-opened_places.ensures in
-    let at = at-position z shard c.loop-index.index place (omega arith) inside
-    (c.place_at-place.ensures.position ∙ ap (λ (n : ℕ). shard * n + c.loop-index.index) same) in
-    let word = read-word z c.requires.shape words c.requires.row (Life place) inside c.life_word.result c.get-word.result.now c.life_word.ensures.word c.get-word.ensures in
-    let page : c.from-page.result ≡ page_of place = c.from-page.ensures ∙ c.of_number.ensures.page in
-    counts-more z shard c.args.opened (slots_items words) c.loop-index.index place c.part_of.result c.args.census.now c.loop-index.census c.count.new.self c.loop-index.invariant
-    inside at.0 at.1 (c.part_of.ensures ∙ (λ i. part_in c.args.opened (page i) (word i))) c.count.ensures
+    let low = c.loop-index-test.true in
+    counts-more z shard c.args.opened (slots_items words) c.loop-index.index c.part_of.result c.args.census.now c.loop-index.census c.count.new.self c.loop-index.invariant
+    (λ place inside own here.
+    let start = start-is z shard c.loop-index.index place (c.shard_start-first.result + c.loop-index.index) own here (ap (λ (n : ℕ). n + c.loop-index.index) c.shard_start-first.ensures) in
+    let at : c.life_at.result ≡ index_in z (Life place) = omega (arith, c.life_at.ensures, start) in
+    let word = read-word z c.requires.shape words c.requires.row (Life place) inside c.life_at.result c.get.result.now at c.get.ensures in
+    c.part_of.ensures ∙ (ap part_by_word word
+    ∙ part-opened c.args.opened (page_of place) ((words_in z (slots_items words)).life place)
+    (opened-below z c.args.opened place inside (omega (arith, here, low, opened)))))
+    c.count.ensures
 
 -- those of unopened pages, which are left
 pub overflow_sub-census : goal.overflow_sub-census

@@ -5,19 +5,20 @@ use Rattle.keybits.specs.declared.step.Word.TheVariants.{Life}
 use Rattle.keybits.specs.Places.{shard_of}
 use Rattle.std.specs.Prelude.{min}
 use Rattle.keybits.specs.Shapes.{all_places, page_start, shard_places, index_of}
-use Rattle.poolsteps.specs.Layout.{words_in, shard_start, spots_at}
+use Rattle.poolsteps.specs.Layout.{words_in, shard_start, slot_start, index_in, spots_at}
+use Rattle.poolsteps.proofs.SlotLemmas.{row-small}
 use Rattle.poolsteps.specs.Joins.{HasCell, HasNoCell}
 use Rattle.keybits.proofs.ShapeLemmas.{shape_bounds}
-use Rattle.shardpool.proofs.count.Marks.{read-word}
-use Rattle.shardpool.proofs.count.Counts.{position-below, at-position, unopened-from, opened-few}
+use Rattle.shardpool.proofs.count.Marks.{read-word, is-full}
+use Rattle.shardpool.proofs.count.Counts.{position-below, start-below, start-is, at-position, unopened-from, opened-few}
 use Rattle.shardpool.proofs.at_close.DroppedCells.{drains-none, drains-more, drains-all, cell-stays}
 use Rattle.shardpool.proofs.free.Words.{word-low, word-high}
 use Rattle.shardpool.proofs.census.out_cells.Given.{Over}
 use Rattle.shardpool.proofs.census.out_cells.Goals as goal
-use Rattle.shardpool.proofs.census.out_cells.Goals.{After-get-word, in-Some, in_default}
+use Rattle.shardpool.proofs.census.out_cells.Goals.{After-place_at-place, After-get-word, in-Some, in_default}
 
 -- the place of this round
-at : (g : Over) (c : After-get-word g) → (shard_of c.place_at-place.result ≡ c.args.shard) × (index_of c.args.shape.now c.place_at-place.result ≡ c.loop-index.index)
+at : (g : Over) (c : After-place_at-place g) → (shard_of c.place_at-place.result ≡ c.args.shard) × (index_of c.args.shape.now c.place_at-place.result ≡ c.loop-index.index)
 at g c =
     let z = c.args.shape.now in let shard = c.args.shard in
     let same = c.shard_places-places.ensures in
@@ -43,6 +44,37 @@ overflow_add-position g c =
     let at = ap (λ (n : ℕ). c.args.shard * n + c.loop-index.index) same in
     omega (arith, below, most, at)
 
+-- the lifecycle word of this round stands where that of the place does
+start : (g : Over) (c : After-place_at-place g) → c.shard_start-first.result + c.loop-index.index ≡ slot_start c.args.shape.now c.place_at-place.result
+start g c =
+    let z = c.args.shape.now in
+    let here = at g c in
+    start-is z c.args.shard c.loop-index.index c.place_at-place.result (c.shard_start-first.result + c.loop-index.index) here.0 here.1
+    (ap (λ (n : ℕ). n + c.loop-index.index) c.shard_start-first.ensures)
+
+word-at : (g : Over) (c : After-get-word g) → c.life_at.result ≡ index_in c.args.shape.now (Life c.place_at-place.result)
+word-at g c = let stands = start g c.before.before in omega (arith, c.life_at.ensures, stands)
+
+pub life_at-requires : goal.life_at-requires
+life_at-requires g c =
+    let z = c.args.shape.now in
+    let few = opened-few z c.args.opened in
+    let opened = c.places_of_pages-opened_places.ensures in
+    let first = c.shard_start-first.ensures in
+    let below = start-below z c.args.shard c.loop-index.index c.requires.shard (omega arith) in
+    let small = row-small z c.requires.shape in
+    omega (arith, first, below, small)
+
+pub get-word-requires : goal.get-word-requires
+get-word-requires g c =
+    let z = c.args.shape.now in
+    let few = opened-few z c.args.opened in
+    let opened = c.places_of_pages-opened_places.ensures in
+    let first = c.shard_start-first.ensures in
+    let at = c.life_at.ensures in
+    let below = start-below z c.args.shard c.loop-index.index c.requires.shard (omega arith) in
+    is-full z c.args.words.now c.requires.words c.life_at.result (omega (arith, first, below, at))
+
 pub place_at-place-requires-clause-position : goal.place_at-place-requires-clause-position
 place_at-place-requires-clause-position g c =
     let z = c.args.shape.now in
@@ -55,8 +87,8 @@ pub out_cell-requires-clause-cell : goal.out_cell-requires-clause-cell
 out_cell-requires-clause-cell g c =
     let z = c.args.shape.now in let words = c.args.words.now in let place = c.place_at-place.result in
     let inside = c.place_at-place.ensures.place in
-    let here = at g (goal.at.out_cell-requires-clause-cell g c).After-get-word in
-    let word = read-word z c.requires.shape words c.requires.words (Life place) inside c.life_word.result c.get-word.result.now c.life_word.ensures.word c.get-word.ensures in
+    let here = at g (goal.at.out_cell-requires-clause-cell g c).After-place_at-place in
+    let word = read-word z c.requires.shape words c.requires.words (Life place) inside c.life_at.result c.get-word.result.now (word-at g (goal.at.out_cell-requires-clause-cell g c).After-get-word) c.get-word.ensures in
     subst (HasCell (spots_at c.args.directory.ptr z) z (slots_items c.loop-index.slots) place) (sym word)
     (cell-stays z (slots_items c.args.slots.now) (slots_items c.loop-index.slots) place ((words_in z (slots_items words)).life place) inside
     (c.loop-index.invariant.drains.kept place inside (inr (let is = here.1 in omega (arith, is)))) (c.requires.cells place inside here.0))
@@ -65,8 +97,8 @@ pub loop-index-preserved : goal.loop-index-preserved
 loop-index-preserved g c =
     let z = c.args.shape.now in let words = c.args.words.now in let place = c.place_at-place.result in
     let inside = c.place_at-place.ensures.place in
-    let here = at g (goal.at.loop-index-preserved g c).After-get-word in
-    let word = read-word z c.requires.shape words c.requires.words (Life place) inside c.life_word.result c.get-word.result.now c.life_word.ensures.word c.get-word.ensures in
+    let here = at g (goal.at.loop-index-preserved g c).After-place_at-place in
+    let word = read-word z c.requires.shape words c.requires.words (Life place) inside c.life_at.result c.get-word.result.now (word-at g (goal.at.loop-index-preserved g c).After-get-word) c.get-word.ensures in
     record {
       drains = drains-more z c.requires.shape c.args.shard (words_in z (slots_items words)).life c.loop-index.index place c.args.slots.now c.loop-index.slots c.out_cell.new.slots
           inside here.0 here.1 c.loop-index.invariant.drains c.out_cell.ensures.drains (subst (HasNoCell z (slots_items c.out_cell.new.slots) place) word c.out_cell.ensures.gone);
@@ -79,19 +111,20 @@ loop-index-preserved g c =
 pub bring_back-requires-clause-start : goal.bring_back-requires-clause-start
 bring_back-requires-clause-start g c =
     let z = c.args.shape.now in let place = c.place_at-place.result in
-    let here = at g (goal.at.bring_back-requires-clause-start g c).After-get-word in
+    let here = at g (goal.at.bring_back-requires-clause-start g c).After-place_at-place in
     let first : c.loop-index.objects.first ≡ shard_start z c.args.shard = (λ i. (c.loop-index.invariant.objects i).first) ∙ c.requires.objects.1.0 in
     let long : length c.loop-index.objects.items ≡ shard_places z = (λ i. length (c.loop-index.invariant.objects i).items) ∙ c.requires.objects.1.1 in
-    let start = c.slot_start.ensures.start in (
-      word-low z place c.args.shard c.slot_start.result c.loop-index.objects.first here.0 start first,
-      word-high z place c.args.shard c.slot_start.result c.loop-index.objects.first here.0 start first c.place_at-place.ensures.place (length c.loop-index.objects.items) long,
+    let begin = start g (goal.at.bring_back-requires-clause-start g c).After-place_at-place in
+    let stands = c.shard_start-first.result + c.loop-index.index in (
+      word-low z place c.args.shard stands c.loop-index.objects.first here.0 begin first,
+      word-high z place c.args.shard stands c.loop-index.objects.first here.0 begin first c.place_at-place.ensures.place (length c.loop-index.objects.items) long,
     )
 
 pub bring_back-requires-clause-spot : goal.bring_back-requires-clause-spot
 bring_back-requires-clause-spot g c =
     let directory : c.loop-index.objects.directory ≡ c.args.directory.ptr = (λ i. (c.loop-index.invariant.objects i).directory) ∙ c.requires.objects.0 in
-    let start = c.slot_start.ensures.start in
-    c.in-Some.ensures.whole ∙ (λ i. record { directory = sym directory i; index = sym start i })
+    let begin = start g (goal.at.bring_back-requires-clause-spot g c).After-place_at-place in
+    c.in-Some.ensures.whole ∙ (λ i. record { directory = sym directory i; index = sym begin i })
 
 pub returns-clause-drains : goal.returns-clause-drains
 returns-clause-drains g c =

@@ -19,9 +19,6 @@ returns-in_err-last_pushed g c = rw c.from_residual.ensures tt
 pub returns-in_err-free : goal.returns-in_err-free
 returns-in_err-free g c = rw c.from_residual-in_err-free.ensures tt
 
-pub returns-in_err-places : goal.returns-in_err-places
-returns-in_err-places g c = rw c.from_residual-in_err-places.ensures tt
-
 pub returns-in_err-rows : goal.returns-in_err-rows
 returns-in_err-rows g c = rw c.from_residual-in_err-rows.ensures tt
 
@@ -81,5 +78,5 @@ returns g c = record {
   pages = c.new-3.ensures;
   objects = unendowed-are c.args.shape.now c.args.number c.args.directory.ptr c.in_ok-objects.objects c.shard_places.result c.shard_start.result
       c.shard_places.ensures c.shard_start.ensures c.in_ok-objects.ensures;
-  places = c.in_ok-places.ensures;
+  places = c.of.ensures;
 }
