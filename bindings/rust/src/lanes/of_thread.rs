@@ -254,6 +254,7 @@ impl<T: Clear> Room<T> {
         own: Own<'s, T, Near<'s, T>>,
         key: Key,
     ) -> bool {
+        segment.fetch_ahead(key);
         let shard = key.shard();
         let Some((cleared, taken)) = segment.post(shard).try_shared_clear(key) else {
             return own.clear(key);

@@ -21,9 +21,7 @@ pub(super) struct Seat<T: Clear> {
     /// The address of the first object of the lane's own places, and how many bytes those take, side by side. (It is asked within calls,
     /// which have the lane itself.)
     own: (usize, usize),
-    /// The blocks that other lanes returned, by the number of those.
-    returned: Vec<Returned<T>>,
-    /// Whether any ever came.
+    /// Whether a block of it ever came home.
     have_come: AtomicBool,
     /// How many fillings its lane has, and how many pages it opened: for a census, and written by the lane alone.
     pub(super) fillings: AtomicU32,
@@ -92,7 +90,7 @@ unsafe impl<T: Clear + Send + Sync> Sync for Seat<T> {}
 unsafe impl<T: Clear + Send> Send for Seat<T> {}
 
 impl<T: Clear> Seat<T> {
-    pub(super) fn new(lane: ProvedLane<T>, returned: Vec<Returned<T>>) -> Seat<T> {
+    pub(super) fn new(lane: ProvedLane<T>) -> Seat<T> {
         let (objects, places) = (&lane.state.objects, lane.state.shape.shard_places());
         let first = objects.base().ptr.wrapping_add(objects.first());
         let bytes = places as usize * mem::size_of::<Object<T>>();
@@ -108,7 +106,6 @@ impl<T: Clear> Seat<T> {
                 carried: Chain::new(),
                 chunks: Chunks::new(),
             }),
-            returned,
             have_come: AtomicBool::new(false),
             fillings: AtomicU32::new(0),
             opened: AtomicU32::new(0),
@@ -125,32 +122,12 @@ impl<T: Clear> Seat<T> {
         (ptr::from_ref(object) as usize).wrapping_sub(first) < bytes
     }
 
-    /// A block that the lane of this number returns.
-    pub(super) fn come_home(&self, from: u32, block: Block<T>) {
-        self.returned[from as usize].push(block);
-        if !self.have_come.load(Ordering::Relaxed) {
-            self.have_come.store(true, Ordering::Release);
-        }
-    }
-
-    /// Blocks that another lane returned, if there are some.
-    pub(super) fn take_returned(&self) -> Option<Chain<T>> {
-        if !self.have_come.load(Ordering::Acquire) {
-            return None;
-        }
-        let mut taken = self.returned.iter().map(Returned::take);
-        taken.find(|chain| !chain.is_empty())
-    }
-
     /// A close finds its blocks that are in no place.
     pub(super) fn find_blocks(&mut self) {
         sync::writes(self.store.get(), "the blocks of a lane that is closed");
         let store = self.store.get_mut();
         for chain in [&mut store.spare, &mut store.used, &mut store.carried] {
             mem::replace(chain, Chain::new()).find();
-        }
-        for returned in &self.returned {
-            returned.take().find();
         }
     }
 
@@ -276,6 +253,26 @@ impl<'s, T: Clear> Post<'s, T> {
     #[inline(always)]
     pub(super) fn number(self) -> u32 {
         self.seat().number
+    }
+
+    /// A block of the seat's that the lane of this number returns.
+    pub(super) fn come_home(self, from: u32, block: Block<T>) {
+        let ways = self.segment().returned_to(self.number());
+        ways[from as usize].push(block);
+        let have_come = &self.seat().have_come;
+        if !have_come.load(Ordering::Relaxed) {
+            have_come.store(true, Ordering::Release);
+        }
+    }
+
+    /// Blocks that another lane returned, if there are some.
+    pub(super) fn take_returned(self) -> Option<Chain<T>> {
+        if !self.seat().have_come.load(Ordering::Acquire) {
+            return None;
+        }
+        let ways = self.segment().returned_to(self.number());
+        let mut taken = ways.iter().map(Returned::take);
+        taken.find(|chain| !chain.is_empty())
     }
 
     /// The same seat, as long as something else keeps it there.

@@ -6,25 +6,29 @@ use super::who::first_bits;
 use super::{ProvedLane, ProvedPool};
 use crate::clear::Clear;
 use crate::erased::keybits::{self, generation_of, Life, State};
-use crate::erased::poolsteps::{life_word, Spot};
+use crate::erased::poolsteps::{life_word, Spot, BYTES_APART, SHARDS_APART};
 use crate::erased::shardpool;
 use crate::errors::OpenError;
 use crate::key::Key;
 use crate::object::{self, Returned};
 use crate::pool::{Census, Shape};
-use crate::shim::{self, Global};
+use crate::shim::{self, Global, RowBlock};
 use crate::sync::{self, AtomicPtr, Ordering};
-use std::mem::ManuallyDrop;
+use std::mem::{self, ManuallyDrop};
 use std::ptr::{self, NonNull};
 
 /// The proved pool, with its lanes.
 pub(crate) struct Segment<T: Clear> {
     proved: ManuallyDrop<ProvedPool<T>>,
     seats: ManuallyDrop<Vec<Seat<T>>>,
+    /// The blocks that lanes returned: for each lane as many ways as there are lanes, by the number of the one that returns.
+    returned: ManuallyDrop<Vec<Returned<T>>>,
     /// How many lanes are of the pool's shape: all, or all but the last, which threads share.
     told: u32,
     /// Where the proved lanes go for the close, which takes no memory: the row in which they came.
     row: ManuallyDrop<shim::Vec<ProvedLane<T>>>,
+    /// Memory for rows of the proved lanes, which go with the close.
+    rows: ManuallyDrop<RowBlock>,
     /// The pool of which it is a segment, once it stands there.
     room: AtomicPtr<Room<T>>,
 }
@@ -47,6 +51,18 @@ pub(super) fn row_for<V>(count: usize) -> Result<Vec<V>, OpenError> {
     Ok(row)
 }
 
+/// How long the rows are that each lane of a pool of this shape has: its list, what it has of its places, and a word for each other
+/// lane. (What isn't counted here has memory of its own.)
+fn rows_of(shape: &keybits::Shape) -> impl Iterator<Item = usize> {
+    let (lanes, places) = (shape.lanes as usize, shape.shard_places() as usize);
+    let rows = [
+        places * mem::size_of::<u32>(),
+        places + SHARDS_APART + BYTES_APART,
+        lanes * mem::size_of::<u64>(),
+    ];
+    (0..lanes).flat_map(move |_| rows)
+}
+
 impl<T: Clear> Segment<T> {
     /// Its lanes, and one more where that is asked for.
     pub(super) fn open(shape: Shape, one_more: bool) -> Result<Segment<T>, OpenError> {
@@ -56,27 +72,31 @@ impl<T: Clear> Segment<T> {
         let checked = Shape { lanes, ..shape }.checked()?;
         let count = lanes as usize;
         let mut seats = row_for(count)?;
-        let mut all_returned = row_for(count)?;
-        for _ in 0..count {
-            let mut returned = row_for(count)?;
-            returned.extend((0..count).map(|_| Returned::new()));
-            all_returned.push(returned);
-        }
+        let mut returned = row_for(count * count)?;
+        returned.resize_with(count * count, Returned::new);
+        let rows = RowBlock::for_rows(rows_of(&checked)).ok_or(OpenError::Memory)?;
         let call = Call;
-        let opened = shardpool::open_wide(Global, checked);
+        // SAFETY: the block goes behind the close, and a call that panics ends the process.
+        let opened = unsafe { rows.within(|| shardpool::open_wide(Global, checked)) };
         call.end();
         let (proved, mut lanes) = opened?;
-        while let (Some(lane), Some(returned)) = (lanes.pop(), all_returned.pop()) {
-            seats.push(Seat::new(lane, returned));
-        }
-        seats.reverse();
+        seats.extend(lanes.drain().map(Seat::new));
         Ok(Segment {
             proved: ManuallyDrop::new(proved),
             seats: ManuallyDrop::new(seats),
+            returned: ManuallyDrop::new(returned),
             told,
             row: ManuallyDrop::new(lanes),
+            rows: ManuallyDrop::new(rows),
             room: AtomicPtr::new(ptr::null_mut()),
         })
+    }
+
+    /// The ways by which lanes return blocks to one.
+    #[inline]
+    pub(super) fn returned_to(&self, number: u32) -> &[Returned<T>] {
+        let (count, number) = (self.seats.len(), number as usize);
+        &self.returned[number * count..(number + 1) * count]
     }
 
     /// It stands where it stays, as a segment of this pool. No other thread has it yet.
@@ -176,6 +196,15 @@ impl<T: Clear> Segment<T> {
         Sight::There
     }
 
+    /// The word of a key's object is fetched ahead, while a call waits for the words in front of it.
+    #[inline(always)]
+    pub(super) fn fetch_ahead(&self, key: Key) {
+        if let Some(spot) = self.proved.find(u64::from(key)) {
+            let objects = self.proved.grid.objects.ptr;
+            shim::fetch_ahead(objects.wrapping_add(spot.start as usize));
+        }
+    }
+
     /// Where the life word of a place stands. (Those of all stand side by side, so it is that of a position of the first shard.)
     #[inline(always)]
     fn life_of(&self, spot: Spot) -> usize {
@@ -231,11 +260,13 @@ impl<T: Clear> Segment<T> {
     fn end(&mut self) -> Census {
         let untold = self.untold();
         // SAFETY: taken once: by `close`, which forgets the pool, or by its drop.
-        let (proved, mut seats, mut row) = unsafe {
+        let (proved, mut seats, returned, mut row, rows) = unsafe {
             (
                 ManuallyDrop::take(&mut self.proved),
                 ManuallyDrop::take(&mut self.seats),
+                ManuallyDrop::take(&mut self.returned),
                 ManuallyDrop::take(&mut self.row),
+                ManuallyDrop::take(&mut self.rows),
             )
         };
         for seat in &mut seats {
@@ -246,8 +277,10 @@ impl<T: Clear> Segment<T> {
         let call = Call;
         let census = shardpool::close(proved, row);
         call.end();
+        drop(rows);
         if object::FINDS_LOST {
             seats.iter_mut().for_each(Seat::find_blocks);
+            returned.iter().for_each(|way| way.take().find());
         }
         // (With the chunks, and the objects in their blocks.)
         drop(seats);

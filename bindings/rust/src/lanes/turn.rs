@@ -112,14 +112,14 @@ fn add(number: &AtomicU32, more: u32) {
 /// A block of another lane goes home to it. (Apart, and without the turn, which stays in registers.)
 #[inline(never)]
 fn bring_home<T: Clear>(post: Post<'_, T>, block: Block<T>) {
-    let home = post.segment().seat(block.home());
+    let home = post.segment().post(block.home());
     home.come_home(post.number(), block);
 }
 
 /// A block that another lane returned, where the lane has no other. The others that it returned are spare then. (Apart, likewise.)
 #[inline(never)]
 fn returned<T: Clear>(post: Post<'_, T>, spare: &mut Chain<T>) -> Option<Block<T>> {
-    let mut chain = post.seat().take_returned()?;
+    let mut chain = post.take_returned()?;
     let block = chain.pop();
     mem::swap(spare, &mut chain);
     block

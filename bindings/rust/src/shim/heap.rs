@@ -1,5 +1,6 @@
 //! Memory, and boxes.
 
+use super::block::apart;
 use super::ready;
 use std::alloc::{alloc, alloc_zeroed, dealloc, Layout};
 use std::marker::PhantomData;
@@ -35,7 +36,7 @@ pub(crate) fn zeroed<T>(count: usize) -> Option<NonNull<T>> {
         return Some(at.cast());
     }
     // SAFETY: the size isn't 0.
-    NonNull::new(unsafe { alloc_zeroed(layout) }.cast())
+    NonNull::new(apart(|| unsafe { alloc_zeroed(layout) }).cast())
 }
 
 /// Frees memory, which the allocator gave by this layout.
@@ -45,7 +46,7 @@ pub(crate) fn zeroed<T>(count: usize) -> Option<NonNull<T>> {
 /// So it is, and nothing uses it any more.
 pub(super) unsafe fn release(at: NonNull<u8>, layout: Layout) {
     // SAFETY: the caller's.
-    unsafe { dealloc(at.as_ptr(), layout) };
+    apart(|| unsafe { dealloc(at.as_ptr(), layout) });
 }
 
 /// Frees the memory of so many values.
@@ -57,7 +58,7 @@ pub(crate) unsafe fn free<T>(at: *mut T, count: usize) {
     let layout = Layout::array::<T>(count).expect("as it was asked for");
     if layout.size() != 0 {
         // SAFETY: by this layout it was asked for.
-        unsafe { dealloc(at.cast(), layout) };
+        apart(|| unsafe { dealloc(at.cast(), layout) });
     }
 }
 
@@ -102,7 +103,7 @@ impl<T, A> Box<T, A> {
             return NonNull::<T>::dangling().as_ptr().cast();
         }
         // SAFETY: the size isn't 0.
-        unsafe { alloc(Self::LAYOUT) }
+        apart(|| unsafe { alloc(Self::LAYOUT) })
     }
 
     /// Where the value stands.
@@ -131,7 +132,7 @@ impl<T, A> Box<T, A> {
     fn free(&mut self) {
         if !Self::IN_WORD && Self::LAYOUT.size() != 0 {
             // SAFETY: by this layout `new` asked for it, and whoever calls has taken or dropped the value.
-            unsafe { dealloc(self.at_mut().cast(), Self::LAYOUT) };
+            apart(|| unsafe { dealloc(self.at_mut().cast(), Self::LAYOUT) });
         }
     }
 

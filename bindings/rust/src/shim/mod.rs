@@ -4,6 +4,7 @@
 //! What the sources' contracts rule out is looked for: an index out of range, a row that is full, a line that is never reached. It
 //! panics then, and reads and writes nothing. With the feature `unchecked` it isn't looked for, and the contracts are trusted.
 
+mod block;
 mod heap;
 mod ready;
 mod rows;
@@ -13,6 +14,7 @@ mod tests;
 #[cfg(pardz_trace)]
 pub(crate) mod trace;
 
+pub(crate) use block::RowBlock;
 pub(crate) use heap::{AllocError, Allocator, Box, Global};
 pub(crate) use ready::Ready;
 pub(crate) use rows::{no_bytes, release, reserve, ArrayVec, Gapless, Lease, Slots, Vec};
@@ -54,6 +56,18 @@ use check;
 #[inline(never)]
 fn out_of_range() -> ! {
     panic!("an index is out of range")
+}
+
+/// Has the processor fetch the line of its cache that an address is in, while the program goes on. It reads nothing.
+#[inline(always)]
+pub(crate) fn fetch_ahead<T>(at: *const T) {
+    #[cfg(target_arch = "x86_64")]
+    // SAFETY: any address may be fetched ahead.
+    unsafe {
+        std::arch::x86_64::_mm_prefetch::<{ std::arch::x86_64::_MM_HINT_T0 }>(at.cast())
+    }
+    #[cfg(not(target_arch = "x86_64"))]
+    let _ = at;
 }
 
 /// Puts into a place what `make` gives for the value in it. A panic of `make` ends the program, as the place has no value then.

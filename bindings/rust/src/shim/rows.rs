@@ -2,7 +2,7 @@
 
 use super::check;
 use super::heap::{self, free, zeroed, AllocError, Global};
-use super::ready;
+use super::{block, ready};
 use std::alloc::Layout;
 use std::fmt;
 use std::marker::PhantomData;
@@ -13,9 +13,11 @@ use std::{ptr, slice, vec};
 
 /// A vector that reports where memory was refused.
 pub(crate) struct Vec<T> {
-    items: vec::Vec<T>,
+    items: ManuallyDrop<vec::Vec<T>>,
     /// Whether the memory behind the items is zeroed.
     clean: bool,
+    /// Whether the memory is part of a block, which frees it.
+    is_part: bool,
 }
 
 impl<T> Vec<T> {
@@ -26,8 +28,11 @@ impl<T> Vec<T> {
 
     #[inline]
     fn of(items: vec::Vec<T>) -> Vec<T> {
-        let clean = false;
-        Vec { items, clean }
+        Vec {
+            items: ManuallyDrop::new(items),
+            clean: false,
+            is_part: false,
+        }
     }
 
     /// An empty vector with room for so many, whose memory comes zeroed from the allocator.
@@ -35,10 +40,17 @@ impl<T> Vec<T> {
         if count == 0 || mem::size_of::<T>() == 0 {
             return Ok(Vec::of(vec::Vec::new()));
         }
-        let at = zeroed::<T>(count).ok_or(AllocError)?;
-        // SAFETY: it is memory of the program's allocator, by the layout of an array of so many, and has no item yet.
+        let part = Layout::array::<T>(count).ok().and_then(block::part);
+        let own = || zeroed::<T>(count).ok_or(AllocError);
+        let at = part.map_or_else(own, |at| Ok(at.cast()))?;
+        // SAFETY: it is memory by the layout of an array of so many, of the program's allocator, or of a block, which frees it in the
+        // vector's stead. It has no item yet.
         let items = unsafe { vec::Vec::from_raw_parts(at.as_ptr(), 0, count) };
-        Ok(Vec { items, clean: true })
+        Ok(Vec {
+            items: ManuallyDrop::new(items),
+            clean: true,
+            is_part: part.is_some(),
+        })
     }
 
     /// So many of a number.
@@ -112,7 +124,20 @@ impl<T> Vec<T> {
             return Ok(());
         }
         self.clean = false;
-        self.items.try_reserve(count).or(Err(AllocError))
+        if self.is_part {
+            return self.leave_block(count);
+        }
+        block::apart(|| self.items.try_reserve(count)).or(Err(AllocError))
+    }
+
+    /// The items move to memory of the vector's own, with room for so many more.
+    #[cold]
+    fn leave_block(&mut self, count: usize) -> Result<(), AllocError> {
+        let mut own = vec::Vec::new();
+        block::apart(|| own.try_reserve(self.items.len() + count)).or(Err(AllocError))?;
+        own.append(&mut self.items);
+        *self = Vec::of(own);
+        Ok(())
     }
 
     /// The memory of as many values as there are items, and how many they are. Whoever takes it frees it. The items move where the vector
@@ -124,19 +149,20 @@ impl<T> Vec<T> {
     /// The same as memory of a type as large, which may be aligned to more: the items move there too.
     pub(super) fn into_memory_of<U>(self) -> Result<(*mut U, usize), AllocError> {
         const { assert!(mem::size_of::<T>() == mem::size_of::<U>()) };
-        let mut items = ManuallyDrop::new(self.items);
-        let (at, count) = (items.as_mut_ptr(), items.len());
-        if count == items.capacity() && mem::align_of::<T>() == mem::align_of::<U>() {
+        let mut row = self;
+        let (at, count) = (row.items.as_mut_ptr(), row.items.len());
+        let is_exact = count == row.items.capacity();
+        if is_exact && !row.is_part && mem::align_of::<T>() == mem::align_of::<U>() {
+            mem::forget(row);
             return Ok((at.cast(), count));
         }
-        let mut items = ManuallyDrop::into_inner(items);
-        let row = zeroed::<U>(count).ok_or(AllocError)?.as_ptr();
-        // SAFETY: the row has memory for all items, which move there, so that the vector has none.
+        let moved = zeroed::<U>(count).ok_or(AllocError)?.as_ptr();
+        // SAFETY: there is memory for all items, which move there, so that the vector has none.
         unsafe {
-            ptr::copy_nonoverlapping(at, row.cast(), count);
-            items.set_len(0);
+            ptr::copy_nonoverlapping(at, moved.cast(), count);
+            row.items.set_len(0);
         }
-        Ok((row, count))
+        Ok((moved, count))
     }
 
     #[inline]
@@ -154,6 +180,12 @@ impl<T> Vec<T> {
     pub(crate) fn pop(&mut self) -> Option<T> {
         self.clean = false;
         self.items.pop()
+    }
+
+    /// The values, which all are taken out.
+    pub(crate) fn drain(&mut self) -> vec::Drain<'_, T> {
+        self.clean = false;
+        self.items.drain(..)
     }
 
     #[inline]
@@ -176,6 +208,18 @@ impl<T> Vec<T> {
     #[inline]
     pub(crate) fn as_slice(&self) -> &[T] {
         &self.items
+    }
+}
+
+impl<T> Drop for Vec<T> {
+    #[inline]
+    fn drop(&mut self) {
+        if self.is_part {
+            self.items.clear();
+        } else {
+            // SAFETY: they are dropped here alone.
+            block::apart(|| unsafe { ManuallyDrop::drop(&mut self.items) });
+        }
     }
 }
 
@@ -221,11 +265,11 @@ impl<T> IntoIterator for Vec<T> {
 
     #[inline]
     fn into_iter(self) -> IntoIter<T> {
-        let mut items = ManuallyDrop::new(self.items);
+        let mut row = ManuallyDrop::new(self);
         IntoIter {
-            at: NonNull::from(&mut **items).cast(),
-            capacity: items.capacity(),
-            left: 0..items.len(),
+            at: NonNull::from(&mut **row.items).cast(),
+            capacity: if row.is_part { 0 } else { row.items.capacity() },
+            left: 0..row.items.len(),
         }
     }
 }

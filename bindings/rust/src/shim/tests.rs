@@ -102,6 +102,86 @@ fn values_move_to_memory_that_is_aligned_to_more() {
     }
 }
 
+/// What is done within a block for so many rows of a hundred bytes.
+fn within_block<R>(rows: usize, work: impl FnOnce() -> R) -> R {
+    let block = RowBlock::for_rows([100, 4000].into_iter().cycle().take(2 * rows));
+    // SAFETY: the rows go with the work, and a panic ends the test.
+    unsafe { block.expect("memory").within(work) }
+}
+
+fn empty_row<T>(count: usize) -> Vec<T> {
+    Vec::with_capacity(Global, count).expect("memory")
+}
+
+#[test]
+fn short_rows_are_parts_of_a_block() {
+    within_block(2, || {
+        let mut rows = [100, 100, 100].map(empty_row::<u8>);
+        rows.iter_mut().for_each(|row| row.push_alike(100, || 0));
+        let [first, second, third] = rows.each_ref().map(|row| row.as_ptr() as usize);
+        assert_eq!((first % 128, second), (0, first + 128));
+        assert!(
+            !(first..first + 256).contains(&third),
+            "it has memory of its own"
+        );
+        assert!(rows
+            .iter()
+            .flat_map(|row| row.as_slice())
+            .all(|byte| *byte == 0));
+    });
+}
+
+/// The allocator may be anyone's code, which calls other pools.
+#[test]
+fn rows_of_the_allocator_are_no_parts_of_the_block() {
+    within_block(1, || {
+        let other = block::apart(|| empty_row::<u8>(100));
+        let mut rows = [100, 100].map(empty_row::<u8>);
+        rows.iter_mut().for_each(|row| row.push_alike(100, || 1));
+        let at = [&other, &rows[1]].map(|row| row.as_ptr() as usize);
+        let first = rows[0].as_ptr() as usize;
+        assert!(!at.iter().any(|at| (first..first + 128).contains(at)));
+        assert_eq!(first % 128, 0);
+    });
+}
+
+#[test]
+fn a_row_may_leave_its_block() {
+    within_block(2, || {
+        let [mut grown, mut moved] = [(); 2].map(|()| empty_row::<u64>(5));
+        for row in [&mut grown, &mut moved] {
+            row.push_alike(5, || 6);
+        }
+        let at = grown.as_ptr();
+        grown.reserve(1).expect("memory");
+        grown.push_reserved(7);
+        assert_eq!(*grown, [6, 6, 6, 6, 6, 7]);
+        assert_ne!(at, grown.as_ptr());
+        let at = moved.as_ptr();
+        // SAFETY: none is asked.
+        let (slots, lease) = unsafe { reserve(&Global, moved) }.expect("memory");
+        assert_eq!(*slots.get(4), 6);
+        assert_ne!(at, ptr::from_ref(slots.get(0)));
+        release(&Global, slots, lease);
+    });
+}
+
+#[test]
+fn values_in_a_block_are_dropped_once() {
+    let drops = Rc::new(Cell::new(0));
+    within_block(2, || {
+        let mut rows = [(); 2].map(|()| empty_row(2));
+        for row in &mut rows {
+            (0..2).for_each(|_| row.push_reserved(Counted(drops.clone(), [0; 8])));
+        }
+        let [taken, mut drained] = rows;
+        assert_eq!(taken.into_iter().count(), 2);
+        assert_eq!((drained.drain().count(), drops.get()), (2, 4));
+        drained.push_reserved(Counted(drops.clone(), [0; 8]));
+    });
+    assert_eq!(drops.get(), 5);
+}
+
 #[test]
 fn a_table_has_its_words_and_slots() {
     let (table, mut seat) = table(3, 2);
