@@ -88,7 +88,7 @@ impl<'p, T: Clear> Hand<'p, T> {
     pub(crate) fn get(&self, key: Key) -> Option<Spent<Held<'_, T, InHand<T>>>> {
         let own = self.own();
         match self.at.segment().sight(key) {
-            Sight::There => own.get(key).map(Spent::new),
+            Sight::There(_) => own.get(key).map(Spent::new),
             Sight::Gone => None,
             Sight::Foreign => {
                 // (Here, where the compiler sees that it is so of no other.)
@@ -116,7 +116,7 @@ impl<'p, T: Clear> Hand<'p, T> {
     #[inline(always)]
     pub(crate) fn clear(&self, key: Key) -> bool {
         match self.at.segment().sight(key) {
-            Sight::There => self.own().clear(key),
+            Sight::There(_) => self.own().clear(key),
             Sight::Gone => false,
             Sight::Foreign => self.clear_elsewhere(key),
         }

@@ -189,16 +189,16 @@ impl<T: Clear> Room<T> {
 
     #[inline(always)]
     fn clear_by_own(&self, own: Own<'_, T>, key: Key) -> bool {
-        let Some(segment) = self.segment_with(key) else {
+        let Some((segment, start)) = self.place_of(key) else {
             return false;
         };
         if !ptr::eq(own.post().segment(), segment) {
-            return self.clear_elsewhere(segment, own, key);
+            return self.clear_elsewhere(segment, own, key, start);
         }
         // SAFETY: it is its segment.
         let own = unsafe { own.beside(segment) };
         if self.is_of_shared(own, key) {
-            return self.clear_of_shared(segment, own, key);
+            return self.clear_of_shared(segment, own, key, start);
         }
         own.clear(key)
     }
@@ -206,13 +206,19 @@ impl<T: Clear> Room<T> {
     /// A clear of the thread's own lane in another segment than it had a place last. (Apart, so that nothing leads back to the call's own
     /// path.)
     #[inline(never)]
-    fn clear_elsewhere<'s>(&'s self, segment: &'s Segment<T>, own: Own<'s, T>, key: Key) -> bool {
+    fn clear_elsewhere<'s>(
+        &'s self,
+        segment: &'s Segment<T>,
+        own: Own<'s, T>,
+        key: Key,
+        start: u32,
+    ) -> bool {
         // SAFETY: it is of this pool.
         let Some(own) = (unsafe { own.within(segment) }) else {
             return self.clear_by_shared(segment, key);
         };
         if self.is_of_shared(own, key) {
-            return self.clear_of_shared(segment, own, key);
+            return self.clear_of_shared(segment, own, key, start);
         }
         if key.shard() == own.post().number() {
             // SAFETY: the thread keeps the lane of this seat.
@@ -253,8 +259,9 @@ impl<T: Clear> Room<T> {
         segment: &'s Segment<T>,
         own: Own<'s, T, Near<'s, T>>,
         key: Key,
+        start: u32,
     ) -> bool {
-        segment.fetch_ahead(key);
+        segment.fetch_ahead(start);
         let shard = key.shard();
         let Some((cleared, taken)) = segment.post(shard).try_shared_clear(key) else {
             return own.clear(key);

@@ -35,8 +35,8 @@ pub(crate) struct Segment<T: Clear> {
 
 /// What loads tell of a key.
 pub(super) enum Sight {
-    /// It isn't known to be gone.
-    There,
+    /// It isn't known to be gone; where its place stands.
+    There(u32),
     /// Its place has a later generation.
     Gone,
     /// It is no key of the segment.
@@ -176,7 +176,7 @@ impl<T: Clear> Segment<T> {
     /// Whether the segment has no object of this key, as loads tell.
     #[inline(always)]
     pub(super) fn lacks(&self, key: Key) -> bool {
-        !matches!(self.sight(key), Sight::There)
+        !matches!(self.sight(key), Sight::There(_))
     }
 
     /// What loads tell of a key.
@@ -193,16 +193,14 @@ impl<T: Clear> Segment<T> {
             self.look_at(spot.place);
             return Sight::Gone;
         }
-        Sight::There
+        Sight::There(spot.start)
     }
 
-    /// The word of a key's object is fetched ahead, while a call waits for the words in front of it.
+    /// The object of the place that stands there is fetched ahead, while a call waits for the words in front of it.
     #[inline(always)]
-    pub(super) fn fetch_ahead(&self, key: Key) {
-        if let Some(spot) = self.proved.find(u64::from(key)) {
-            let objects = self.proved.grid.objects.ptr;
-            shim::fetch_ahead(objects.wrapping_add(spot.start as usize));
-        }
+    pub(super) fn fetch_ahead(&self, start: u32) {
+        let objects = self.proved.grid.objects.ptr;
+        shim::fetch_ahead(objects.wrapping_add(start as usize));
     }
 
     /// Where the life word of a place stands. (Those of all stand side by side, so it is that of a position of the first shard.)
