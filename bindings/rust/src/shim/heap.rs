@@ -39,6 +39,23 @@ pub(crate) fn zeroed<T>(count: usize) -> Option<NonNull<T>> {
     NonNull::new(apart(|| unsafe { alloc_zeroed(layout) }).cast())
 }
 
+/// So much memory costs an allocator no more if it is zeroed.
+const MUCH: usize = 16_384;
+
+/// Memory for so many values, which have bytes, and whether it is zeroed. None where it was refused.
+pub(super) fn memory<T>(count: usize) -> Option<(NonNull<T>, bool)> {
+    let layout = Layout::array::<T>(count).ok()?;
+    if layout.size() >= MUCH || layout.size() == 0 {
+        return Some((zeroed(count)?, true));
+    }
+    if let Some(at) = ready::take(layout) {
+        return Some((at.cast(), true));
+    }
+    // SAFETY: the size isn't 0.
+    let at = NonNull::new(apart(|| unsafe { alloc(layout) }))?;
+    Some((at.cast(), false))
+}
+
 /// Frees memory, which the allocator gave by this layout.
 ///
 /// # Safety

@@ -4,6 +4,7 @@
 //! What the sources' contracts rule out is looked for: an index out of range, a row that is full, a line that is never reached. It
 //! panics then, and reads and writes nothing. With the feature `unchecked` it isn't looked for, and the contracts are trusted.
 
+mod array;
 mod block;
 mod heap;
 mod ready;
@@ -14,10 +15,11 @@ mod tests;
 #[cfg(pardz_trace)]
 pub(crate) mod trace;
 
+pub(crate) use array::ArrayVec;
 pub(crate) use block::RowBlock;
 pub(crate) use heap::{AllocError, Allocator, Box, Global};
 pub(crate) use ready::Ready;
-pub(crate) use rows::{no_bytes, release, reserve, ArrayVec, Gapless, Lease, Slots, Vec};
+pub(crate) use rows::{no_bytes, release, reserve, Gapless, Lease, Slots, Vec};
 pub(crate) use table::{Closed, Seat, Table};
 
 use std::marker::PhantomData;

@@ -6,7 +6,7 @@ use super::{block, ready};
 use std::alloc::Layout;
 use std::fmt;
 use std::marker::PhantomData;
-use std::mem::{self, ManuallyDrop, MaybeUninit};
+use std::mem::{self, ManuallyDrop};
 use std::ops::{Deref, DerefMut, Index, IndexMut, Range};
 use std::ptr::NonNull;
 use std::{ptr, slice, vec};
@@ -35,20 +35,22 @@ impl<T> Vec<T> {
         }
     }
 
-    /// An empty vector with room for so many, whose memory comes zeroed from the allocator.
+    /// An empty vector with room for so many.
     pub(crate) fn with_capacity(_: Global, count: usize) -> Result<Vec<T>, AllocError> {
         if count == 0 || mem::size_of::<T>() == 0 {
             return Ok(Vec::of(vec::Vec::new()));
         }
         let part = Layout::array::<T>(count).ok().and_then(block::part);
-        let own = || zeroed::<T>(count).ok_or(AllocError);
-        let at = part.map_or_else(own, |at| Ok(at.cast()))?;
+        let (at, clean) = part
+            .map(|at| (at.cast(), true))
+            .or_else(|| heap::memory::<T>(count))
+            .ok_or(AllocError)?;
         // SAFETY: it is memory by the layout of an array of so many, of the program's allocator, or of a block, which frees it in the
         // vector's stead. It has no item yet.
         let items = unsafe { vec::Vec::from_raw_parts(at.as_ptr(), 0, count) };
         Ok(Vec {
             items: ManuallyDrop::new(items),
-            clean: true,
+            clean,
             is_part: part.is_some(),
         })
     }
@@ -78,7 +80,7 @@ impl<T> Vec<T> {
             unsafe { self.items.set_len(length) };
             return;
         }
-        self.items.resize_with(length, make);
+        self.fill(length, make);
     }
 
     /// Appends so many empty objects, for which there is room. Where zeros are there, and `zeros` tells that they are such objects, nothing is
@@ -102,7 +104,19 @@ impl<T> Vec<T> {
             unsafe { self.items.set_len(length) };
             return;
         }
-        self.items.resize_with(length, make);
+        self.fill(length, make);
+    }
+
+    /// Appends values up to this length, for which there is room. (By a loop in which the compiler sees that they are alike.)
+    #[inline(always)]
+    fn fill(&mut self, length: usize, make: impl Fn() -> T) {
+        let at = self.items.as_mut_ptr();
+        for index in self.items.len()..length {
+            // SAFETY: the caller looked whether there is room.
+            unsafe { at.add(index).write(make()) };
+        }
+        // SAFETY: so many are written.
+        unsafe { self.items.set_len(length) };
     }
 
     /// Appends a value, for which there is room.
@@ -343,61 +357,6 @@ fn is_zero<T: Gapless>(value: T) -> bool {
     // SAFETY: the bytes are the value's own, and each is written, as its type has no gap.
     let bytes = unsafe { slice::from_raw_parts(at, mem::size_of::<T>()) };
     bytes.iter().all(|byte| *byte == 0)
-}
-
-/// At most N values, which lie in the row itself.
-pub(crate) struct ArrayVec<T, const N: usize> {
-    items: [MaybeUninit<T>; N],
-    count: usize,
-}
-
-impl<T, const N: usize> ArrayVec<T, N> {
-    pub(crate) fn new() -> ArrayVec<T, N> {
-        ArrayVec {
-            items: [const { MaybeUninit::uninit() }; N],
-            count: 0,
-        }
-    }
-
-    pub(crate) fn len(&self) -> usize {
-        self.count
-    }
-
-    pub(crate) fn is_full(&self) -> bool {
-        self.count == N
-    }
-
-    pub(crate) fn push(&mut self, value: T) {
-        self.items[self.count].write(value);
-        self.count += 1;
-    }
-
-    pub(crate) fn pop(&mut self) -> Option<T> {
-        self.count = self.count.checked_sub(1)?;
-        // SAFETY: the first `count` items are written, and the last of them is one no more.
-        Some(unsafe { self.items[self.count].assume_init_read() })
-    }
-
-    pub(crate) fn clear(&mut self) {
-        while self.pop().is_some() {}
-    }
-
-    pub(crate) fn as_slice(&self) -> &[T] {
-        // SAFETY: the first `count` items are written.
-        unsafe { slice::from_raw_parts(self.items.as_ptr().cast(), self.count) }
-    }
-}
-
-impl<T, const N: usize> Drop for ArrayVec<T, N> {
-    fn drop(&mut self) {
-        self.clear();
-    }
-}
-
-impl<T: fmt::Debug, const N: usize> fmt::Debug for ArrayVec<T, N> {
-    fn fmt(&self, f: &mut fmt::Formatter<'_>) -> fmt::Result {
-        self.as_slice().fmt(f)
-    }
 }
 
 /// A row of memory. Which of it is filled is known to proofs alone; no value in it is dropped with it, and it isn't freed by itself.
