@@ -45,8 +45,8 @@ impl<T> Vec<T> {
             .map(|at| (at.cast(), true))
             .or_else(|| heap::memory::<T>(count))
             .ok_or(AllocError)?;
-        // SAFETY: it is memory by the layout of an array of so many, of the program's allocator, or of a block, which frees it in the
-        // vector's stead. It has no item yet.
+        // SAFETY: it is memory by the layout of an array of so many, and has no item yet. It is of the program's allocator; or part of a
+        // block, and then this vector is neither grown nor freed (`reserve`, `into_memory_of`, `drop`, `into_iter`).
         let items = unsafe { vec::Vec::from_raw_parts(at.as_ptr(), 0, count) };
         Ok(Vec {
             items: ManuallyDrop::new(items),
