@@ -15,8 +15,13 @@ pub(crate) const MOST_FILLINGS: usize = 16;
 pub(crate) const NUMBERS: usize = 9;
 pub(crate) const LOOKED: usize = 7;
 
+/// Room at both ends of a handle: what two lanes write shares no line of the cache, nor two that are fetched together.
+type Apart = [u64; 16];
+
 /// A lane, with its share of the pool and the places that it fills.
+#[repr(C)]
 pub(crate) struct Handle {
+    _ahead: Apart,
     pub(crate) share: Share,
     pub(crate) lane: Lane<Bytes>,
     /// The lane's references, by key.
@@ -31,6 +36,7 @@ pub(crate) struct Handle {
     told: NonNull<Told>,
     /// How many pages it has told of.
     opened: u32,
+    _behind: Apart,
 }
 
 impl From<CreateFault> for Refusal {
@@ -62,6 +68,7 @@ impl Handle {
         row: shim::Vec<Lane<Bytes>>,
     ) -> Handle {
         Handle {
+            _ahead: [0; 16],
             told: NonNull::from(&share.told[lane.number() as usize]),
             share,
             lane,
@@ -70,6 +77,7 @@ impl Handle {
             joined: 0,
             row,
             opened: 0,
+            _behind: [0; 16],
         }
     }
 

@@ -388,10 +388,7 @@ impl PoolSlot {
     /// # Safety
     ///
     /// As with `pointer`.
-    pub(crate) unsafe fn share(
-        slot: *const PoolSlot,
-        other: &mut PoolSlot,
-    ) -> Result<(), Refusal> {
+    pub(crate) unsafe fn share(slot: *const PoolSlot, other: &mut PoolSlot) -> Result<(), Refusal> {
         // SAFETY: asked of whoever calls.
         let at = unsafe { PoolSlot::pointer(slot)? };
         if other.is_full() {
