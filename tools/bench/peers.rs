@@ -11,6 +11,7 @@
 //! - `pardz`: the Rust crate, by calls of a growing pool; `owned` by its owned handles;
 //! - `dropin`: the Rust crate's module `sharded_slab`, by the same lines as `slab`; `dropin16k`, `dropin192`
 //!   and `dropinowned` likewise;
+//! - `slabvec`, `slabownedvec`, `dropinvec`, `dropinownedvec`: the same of a `Vec<u8>`, which has the library's `Clear`;
 //! - `map`: a hash map of buffers behind a `Mutex`;
 //! - `row`: a row of boxed buffers behind a `Mutex`, which are emptied in place, with a list of the free ones;
 //! - `queue`: a queue of boxed spare buffers behind a `Mutex`, from which a thread takes one to own it;
@@ -140,11 +141,17 @@ fn do_case(case: &str, plan: Plan) -> Option<u64> {
         #[cfg(sharded_slab)]
         "slabowned" => do_keyed::<slab::Owned<slab::Buffer>>(name, plan),
         #[cfg(sharded_slab)]
+        "slabvec" => do_keyed::<slab::Slab<Vec<u8>>>(name, plan),
+        #[cfg(sharded_slab)]
+        "slabownedvec" => do_keyed::<slab::Owned<Vec<u8>>>(name, plan),
+        #[cfg(sharded_slab)]
         "slab16k" => do_rounds(&slab::Slab::<slab::Large>::default(), name, plan),
         #[cfg(sharded_slab)]
         "slab192" => do_rounds(&slab::Slab::<slab::Record>::default(), name, plan),
         "dropin" => do_keyed::<dropin::Slab<dropin::Buffer>>(name, plan),
         "dropinowned" => do_keyed::<dropin::Owned<dropin::Buffer>>(name, plan),
+        "dropinvec" => do_keyed::<dropin::Slab<Vec<u8>>>(name, plan),
+        "dropinownedvec" => do_keyed::<dropin::Owned<Vec<u8>>>(name, plan),
         "dropin16k" => do_rounds(&dropin::Slab::<dropin::Large>::default(), name, plan),
         "dropin192" => do_rounds(&dropin::Slab::<dropin::Record>::default(), name, plan),
         "pardz" => do_keyed::<self::pardz::Pardz>(name, plan),

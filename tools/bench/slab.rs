@@ -31,6 +31,19 @@ impl Pooled for Buffer {
     }
 }
 
+/// A vector, which the library clears by its own.
+impl Pooled for Vec<u8> {
+    #[inline]
+    fn fill(&mut self) {
+        self.extend_from_slice(&BYTES);
+    }
+
+    #[inline]
+    fn size(&self) -> usize {
+        self.len()
+    }
+}
+
 static LARGE: [u8; 16_384] = [7; 16_384];
 
 /// A buffer of 16 KiB that is cleared in place.

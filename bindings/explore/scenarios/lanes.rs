@@ -121,6 +121,19 @@ pub fn all() -> Vec<Scenario> {
         )
         .plain(),
         Scenario::new(
+            "plain-warm",
+            || lanes_in_hand(shape(2, 4, 1), 2),
+            [
+                |w| clear_and_fill(w, 0, 4),
+                |w| {
+                    create(w, 1, 1);
+                    clear_and_fill(w, 1, 2);
+                },
+            ],
+            cleared_twice,
+        )
+        .plain(),
+        Scenario::new(
             "plain-rounds",
             two_keys,
             [create_in_rounds, clear_in_rounds],
@@ -230,6 +243,25 @@ fn guess(world: &World) {
 fn clear_both(world: &World) {
     clear_unseen(world, 1, 0);
     clear_unseen(world, 1, 1);
+}
+
+/// Clears a key of the first lane, and has so many fillings at once, as far as there are places.
+fn clear_and_fill(world: &World, lane: usize, times: u64) {
+    clear_unseen(world, lane, lane);
+    world.by_lane(lane, |lane| {
+        let mut fillings = Vec::new();
+        for number in 1..=times {
+            if let Ok(mut filling) = lane.create() {
+                assert_eq!(filling.get(), 0, "an object isn't empty");
+                filling.set(number);
+                fillings.push((filling, number));
+            }
+        }
+        for (filling, number) in fillings {
+            assert_eq!(filling.get(), number, "a filling has another one's object");
+            world.note(filling.publish());
+        }
+    });
 }
 
 fn create_twice(world: &World) {

@@ -15,12 +15,17 @@ static PLAIN: AtomicBool = AtomicBool::new(false);
 #[derive(Debug)]
 pub struct Tracked {
     number: u64,
+    /// Not 0, as no plain object has zeros alone.
+    _mark: u64,
 }
 
 impl Default for Tracked {
     fn default() -> Tracked {
         ALIVE.fetch_add(1, SeqCst);
-        Tracked { number: 0 }
+        Tracked {
+            number: 0,
+            _mark: 1,
+        }
     }
 }
 

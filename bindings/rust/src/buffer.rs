@@ -1,9 +1,12 @@
 //! Buffers of bytes.
 use crate::clear::{Clear, Plain};
 use crate::errors::MemoryRefused;
+use crate::object::Bytes;
+use std::alloc::{handle_alloc_error, Layout};
 use std::borrow::{Borrow, BorrowMut};
 use std::fmt;
 use std::io::{self, Read, Write};
+use std::mem;
 use std::ops::{Deref, DerefMut};
 
 /// A buffer of bytes, which is appended to by [`append`](Buffer::append), as an [`io::Write`] or as a [`fmt::Write`], or written to
@@ -26,17 +29,23 @@ use std::ops::{Deref, DerefMut};
 /// ```
 #[derive(Default)]
 pub struct Buffer {
-    /// Its bytes, and behind them the room that was lent.
-    bytes: Vec<u8>,
-    /// How many bytes it has, without those that were lent.
+    /// Its bytes, and behind them those for which there is room; and last, of room that was lent, how much that is.
+    bytes: Bytes,
+    /// How many bytes it has; and by `LENT` that room behind them is lent.
     len: usize,
 }
+
+/// In `len`. (No buffer has so many bytes.)
+const LENT: usize = 1 << (usize::BITS - 1);
+
+/// How many bytes say how much room was lent.
+const TOLD: usize = mem::size_of::<usize>();
 
 impl Buffer {
     /// An empty buffer without memory.
     pub const fn new() -> Buffer {
         Buffer {
-            bytes: Vec::new(),
+            bytes: Bytes::new(),
             len: 0,
         }
     }
@@ -44,7 +53,7 @@ impl Buffer {
     /// How many bytes it has.
     #[inline]
     pub fn len(&self) -> usize {
-        self.len
+        self.len & !LENT
     }
 
     /// Whether it has none.
@@ -56,19 +65,20 @@ impl Buffer {
     /// How many bytes it can have without taking memory.
     #[inline]
     pub fn capacity(&self) -> usize {
-        self.bytes.capacity()
+        self.bytes.len().saturating_sub(TOLD)
     }
 
-    /// Ends what was lent.
-    #[inline]
-    fn end_room(&mut self) {
-        self.bytes.truncate(self.len);
+    /// Where it is told how much room was lent, if there is memory.
+    fn told(&mut self) -> Option<&mut [u8; TOLD]> {
+        self.bytes.last_chunk_mut()
     }
 
-    #[cold]
-    #[inline(never)]
-    fn end_room_apart(&mut self) {
-        self.end_room();
+    /// Ends what was lent, and answers how much that was.
+    fn end_room(&mut self) -> usize {
+        let is_lent = self.len & LENT != 0;
+        self.len &= !LENT;
+        let told = self.told().filter(|_| is_lent);
+        told.map_or(0, |told| usize::from_ne_bytes(*told))
     }
 
     /// Takes memory for so many bytes more, where it has less. What [`room`](Buffer::room) lent ends.
@@ -85,14 +95,20 @@ impl Buffer {
     /// ```
     #[inline]
     pub fn reserve(&mut self, count: usize) -> Result<(), MemoryRefused> {
-        // (By the vector's own numbers, so that its look at its room is this one.)
-        if self.bytes.len() != self.len {
-            self.end_room_apart();
-        }
-        if self.bytes.capacity() - self.bytes.len() < count {
-            return grow(&mut self.bytes, count);
+        self.len &= !LENT;
+        if self.capacity() - self.len < count {
+            return self.grow(count);
         }
         Ok(())
+    }
+
+    /// Makes room for so many bytes more. Apart, for it is rare.
+    #[cold]
+    #[inline(never)]
+    fn grow(&mut self, count: usize) -> Result<(), MemoryRefused> {
+        let all = self.len.checked_add(count);
+        let all = all.and_then(|all| all.checked_add(TOLD));
+        self.bytes.grow(all.ok_or(MemoryRefused)?)
     }
 
     /// Appends bytes.
@@ -103,8 +119,9 @@ impl Buffer {
     #[inline]
     pub fn append(&mut self, bytes: &[u8]) -> Result<(), MemoryRefused> {
         self.reserve(bytes.len())?;
-        self.bytes.extend_from_slice(bytes);
-        self.len = self.bytes.len();
+        let end = self.len + bytes.len();
+        self.bytes[self.len..end].copy_from_slice(bytes);
+        self.len = end;
         Ok(())
     }
 
@@ -128,8 +145,14 @@ impl Buffer {
     /// ```
     pub fn room(&mut self, count: usize) -> Result<&mut [u8], MemoryRefused> {
         self.reserve(count)?;
-        self.bytes.resize(self.len + count, 0);
-        Ok(&mut self.bytes[self.len..])
+        let begin = self.len;
+        if let Some(told) = self.told() {
+            *told = count.to_ne_bytes();
+            self.len |= LENT;
+        }
+        let room = &mut self.bytes[begin..begin + count];
+        room.fill(0);
+        Ok(room)
     }
 
     /// The first `count` bytes of the last [`room`](Buffer::room) belong to the buffer, and the others don't.
@@ -138,10 +161,9 @@ impl Buffer {
     ///
     /// Where that room was smaller.
     pub fn wrote(&mut self, count: usize) {
-        let lent = self.bytes.len() - self.len;
+        let lent = self.end_room();
         assert!(count <= lent, "{count} bytes of a room of {lent}");
         self.len += count;
-        self.end_room();
     }
 
     /// Appends what one read gives, at most so many bytes, with no copy between. Answers how many it gave.
@@ -167,16 +189,8 @@ impl Buffer {
 
     /// Keeps the first `count` bytes, and drops the others. The memory stays.
     pub fn truncate(&mut self, count: usize) {
-        self.len = self.len.min(count);
-        self.end_room();
+        self.len = self.len().min(count);
     }
-}
-
-/// Makes room for so many bytes more. Apart, for it is rare.
-#[cold]
-#[inline(never)]
-fn grow(bytes: &mut Vec<u8>, count: usize) -> Result<(), MemoryRefused> {
-    bytes.try_reserve(count).map_err(|_| MemoryRefused)
 }
 
 /// Keeps its memory.
@@ -184,7 +198,6 @@ impl Clear for Buffer {
     #[inline]
     fn clear(&mut self) {
         self.len = 0;
-        self.bytes.clear();
     }
 
     #[inline(always)]
@@ -215,7 +228,8 @@ impl Deref for Buffer {
 impl DerefMut for Buffer {
     #[inline]
     fn deref_mut(&mut self) -> &mut [u8] {
-        &mut self.bytes[..self.len]
+        let len = self.len();
+        &mut self.bytes[..len]
     }
 }
 
@@ -272,12 +286,10 @@ impl fmt::Write for Buffer {
 
 impl Extend<u8> for Buffer {
     fn extend<I: IntoIterator<Item = u8>>(&mut self, bytes: I) {
-        let bytes = bytes.into_iter();
-        self.end_room();
-        self.bytes.reserve(bytes.size_hint().0);
-        for byte in bytes {
-            self.bytes.push(byte);
-            self.len += 1;
+        let mut bytes = bytes.into_iter();
+        let has_room = self.reserve(bytes.size_hint().0).is_ok();
+        if !has_room || !bytes.all(|byte| self.append(&[byte]).is_ok()) {
+            handle_alloc_error(Layout::new::<u8>());
         }
     }
 }

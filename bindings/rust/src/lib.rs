@@ -105,7 +105,7 @@
 //! clear of the pool panics.
 //!
 //! A growing pool has up to 256 segments, each a pool of the proved kind with a tag of its own, by which a key tells its segment. The
-//! first has 16 * 32 places and takes less than 192 KiB; from the sixth on each has 16 * 44,992. All ways of calling find keys of
+//! first has 16 * 32 places and takes less than 192 KiB; from the fifth on each has 16 * 12,224, and from the seventeenth on 16 * 44,992. All ways of calling find keys of
 //! all segments. Twelve threads have a lane each; if there are more, segments with 32 and with 64 lanes are opened, for sixty.
 //!
 //! # A pool for the whole program

@@ -244,8 +244,8 @@ impl<T: Clear> Pool<T> {
     ///
     /// Where a create finds no place in shared lanes either, and the next segment would be the sixth or a later one, lanes that nobody has
     /// are lent to all first, but for four: who wants a lane takes one back, unless a filling, a reference or an owned handle is of it just
-    /// then. Its segments have the tags from 0 on; it has 16 * 32 places with the first, and 16 * 64, 192, 960, 12,224 and 44,992 more with
-    /// those that follow, or a few more where they have more lanes. One that is opened for the sake of its lanes has 16 * 960 at most.
+    /// then. Its segments have the tags from 0 on; it has 16 * 32 places with the first, and 16 * 64, 192 and 960 more with those
+    /// that follow, then 16 * 12,224 with each of twelve, and 16 * 44,992 with each later one, or a few more where they have more lanes. One that is opened for the sake of its lanes has 16 * 960 at most.
     ///
     /// # Errors
     ///

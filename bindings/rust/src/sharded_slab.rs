@@ -34,7 +34,7 @@
 //!   length needs no deeper stack. Where it panics its object is dropped.
 //! - **Owned handles keep the pool's memory**, and not the [`Arc`] by which they were made: its count doesn't rise, and a `Weak` finds no
 //!   pool whose last `Arc` was dropped, while an [`OwnedRef`] lives.
-//! - **A create is refused** where memory is, or at the end of 256 segments (180 million places): it knows no most number of threads, and
+//! - **A create is refused** where memory is, or at the end of 256 segments (175 million places): it knows no most number of threads, and
 //!   works while the thread ends. A lane has 1,048,575 references at most, and four lanes have all the owned ones; one more is a panic.
 //! - [`OwnedRef`] and [`OwnedRefMut`] are [`Send`] and [`Sync`] where `T` is both. A [`Clear`] is there for more types.
 //! - Keys have 64 bits: the module is there where `usize` has as many.
@@ -67,7 +67,7 @@ pub trait Config: Sized {
     /// How many of the highest bits of each key are left to the program: 0 to 24. They are 0 in the keys that the pool gives, and not
     /// looked at in those that it takes.
     ///
-    /// The generation has so many bits less, of 32; then its place is retired. With 24 the pool ends after some 46,000,000,000 creates.
+    /// The generation has so many bits less, of 32; then its place is retired. With 24 the pool ends after some 45,000,000,000 creates.
     const RESERVED_BITS: usize = 0;
 }
 

@@ -11,7 +11,7 @@ use std::sync::Barrier;
 use std::thread;
 
 /// Places of a lane in all segments, by how many there are.
-const PLACES: [u32; 7] = [0, 32, 96, 288, 1248, 13_472, 58_464];
+const PLACES: [u32; 7] = [0, 32, 96, 288, 1248, 13_472, 25_696];
 
 fn fill(pool: &Pool<Number>, count: u64) -> Vec<Key> {
     (0..count).map(|number| put(pool, number)).collect()
@@ -58,9 +58,9 @@ fn a_thread_that_turns_to_shared_lanes_again_and_again() {
     assert!(keys.iter().all(|key| pool.clear(*key)));
 }
 
-/// A widest segment isn't opened for that.
+/// The sixth segment isn't opened for that.
 #[test]
-fn a_widest_segment_is_opened_for_want_of_places_alone() {
+fn a_later_segment_is_opened_for_want_of_places_alone() {
     let _limit = limit();
     let pool = growing();
     let mut keys = fill(
@@ -74,9 +74,9 @@ fn a_widest_segment_is_opened_for_want_of_places_alone() {
     assert_eq!(segments(&pool), 5);
 }
 
-/// Before a widest segment is opened, lanes that nobody has are lent to all, as long as more than four are at home.
+/// Before the sixth segment is opened, lanes that nobody has are lent to all, as long as more than four are at home.
 #[test]
-fn lanes_at_home_are_lent_before_a_widest_segment_is_opened() {
+fn lanes_at_home_are_lent_before_a_later_segment_is_opened() {
     let _limit = limit();
     let pool = growing();
     // (Of twelve lanes five stay at home.)

@@ -220,7 +220,7 @@ fn all_places_by_four_threads() {
     fill_and_empty(4);
 }
 
-/// A pool that grows opens its widest segments as it fills: 32, 64, 192, 960, 12,224 places of each lane, and 44,992 from then on.
+/// A pool that grows opens larger segments as it fills: 32, 64, 192, 960 places of each lane, and then 12,224 often.
 #[test]
 fn a_growing_pool_becomes_wide() {
     let _limit = limit();
@@ -232,7 +232,7 @@ fn a_growing_pool_becomes_wide() {
             assert_eq!(u64::from(put(&lane, number)) >> 56, tag);
         }
     }
-    let segments: u32 = [32, 64, 192, 960, 12_224, 44_992].iter().sum();
+    let segments: u32 = [32, 64, 192, 960, 12_224, 12_224].iter().sum();
     let census = pool.census();
     let present = 32 + 64 + 192 + 960 + 12_224 + 1000;
     assert_eq!(census.present, present);

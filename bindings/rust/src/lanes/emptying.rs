@@ -1,70 +1,52 @@
-//! Who empties the objects of the places that a lane's calls reclaim: this crate's code and std's, within the call; or code of others,
-//! behind it.
-use super::seat::Stands;
+//! Who empties the objects of the places that a lane's calls reclaim. Code of others does so behind the call. An object of a plain type stays
+//! in its place as it is, and is emptied as a filling begins with it, in front of all that reads it.
+use super::seat::Post;
 use super::turn::Turn;
-use super::ProvedFilling;
 use crate::clear::Clear;
 use crate::erased::shardpool::Emptier;
-use crate::object::{Block, Object};
+use crate::key::Key;
+use crate::object::{Hooked, Placed};
+use std::ptr::NonNull;
 
-/// For one call of a lane.
-pub(super) struct Emptying<'s, T: Clear, P: Stands<'s, T>>(Turn<'s, T, P>);
+/// For one call of a lane, for this key.
+pub(super) struct Emptying<'s, T: Clear> {
+    turn: Turn<'s, T, Post<'s, T>>,
+    key: Key,
+}
 
-impl<'s, T: Clear, P: Stands<'s, T>> Emptying<'s, T, P> {
+impl<'s, T: Clear> Emptying<'s, T> {
     #[inline(always)]
-    pub(super) fn by(turn: Turn<'s, T, P>) -> Self {
-        Emptying(turn)
-    }
-
-    /// Code of others is to empty a block, behind the call.
-    #[inline(always)]
-    fn take(&mut self, block: Block<T>) {
-        self.0.store().taken.push(block);
+    pub(super) fn of(turn: Turn<'s, T, Post<'s, T>>, key: Key) -> Self {
+        Emptying { turn, key }
     }
 }
 
-impl<'s, T: Clear, P: Stands<'s, T>> Emptier<Object<T>> for Emptying<'s, T, P> {
-    /// (Where no code of others is needed, a block of another lane stays in its place as it is, and is emptied when it came home with that:
-    /// so who clears another's objects doesn't take their lines out of the other's cache.)
+impl<T: Clear> Emptier<Placed<T>> for Emptying<'_, T> {
     #[inline(always)]
-    fn empty(&mut self, object: &mut Object<T>) {
-        let is_here = T::plain().0;
-        if is_here && !self.0.post().seat().has(object) {
-            return;
-        }
-        let Some(mut block) = object.unhook() else {
-            return;
-        };
-        if is_here {
-            block.clear();
-            debug_assert_eq!(block.home(), self.0.post().number());
-            self.0.store().spare.push(block);
-        } else {
-            self.take(block);
+    fn empty(&mut self, object: &mut Placed<T>) {
+        if self.key.shard() == self.turn.post().number() {
+            self.turn.store().warm = Some(NonNull::from(object));
         }
     }
 
+    /// (It goes with its place, since the allocator isn't called within a call.)
     #[inline(always)]
-    fn retire(&mut self, mut object: Object<T>) {
-        let Some(mut block) = object.unhook() else {
-            return;
-        };
-        if T::plain().0 {
-            block.clear();
-            self.0.put_away(block);
-        } else {
-            self.take(block);
-        }
+    fn retire(&mut self, object: Placed<T>) {
+        // SAFETY: it is the object of the key's place, which the call reclaimed.
+        unsafe { self.turn.put_back(self.key, object) };
     }
 }
 
-/// A block that was left in the place of a new filling: it is emptied.
-#[inline(always)]
-pub(super) fn left<T: Clear>(proved: &mut ProvedFilling<T>) -> Option<Block<T>> {
-    if !T::plain().0 {
-        return None;
+impl<T: Clear> Emptier<Hooked<T>> for Emptying<'_, T> {
+    #[inline(always)]
+    fn empty(&mut self, object: &mut Hooked<T>) {
+        if let Some(block) = object.unhook() {
+            self.turn.store().taken.push(block);
+        }
     }
-    let mut block = proved.value_mut().unhook()?;
-    block.clear();
-    Some(block)
+
+    #[inline(always)]
+    fn retire(&mut self, mut object: Hooked<T>) {
+        self.empty(&mut object);
+    }
 }

@@ -33,7 +33,7 @@ impl<T: Clear> Room<T> {
         self.create_growing(|| self.create_in_shared(Joint::come))
     }
 
-    /// The block that the thread carries, where that is of the lane of this seat. (Of types that are emptied under the lock it has none.)
+    /// The block that the thread carries, where that is of the lane of this seat. (Of plain types it has none.)
     #[inline(always)]
     fn carried(&self, post: Post<'_, T>) -> Option<Block<T>> {
         if T::plain().0 {
@@ -60,9 +60,9 @@ impl<T: Clear> Begun<'_, T, Far> {
     ///
     /// It is a user of its lane, so that this is there until it is spent.
     unsafe fn far(self) -> Begun<'static, T, Far> {
-        let (post, words, block) = self.into_words();
-        // SAFETY: the caller's.
-        Begun::from_words(unsafe { post.keep() }, words, block, Far)
+        let post = self.post();
+        // SAFETY: the caller's, and the words are those of this one.
+        unsafe { Begun::from_words(post.keep(), self.into_words(), Far) }
     }
 }
 
@@ -128,15 +128,15 @@ impl<T: Clear> Spend for Begun<'static, T, Far> {
     #[inline(always)]
     fn spend(self) {
         // (By its words: a filling whose address isn't told stays in registers.)
-        let (post, words, block) = self.into_words();
-        give_back_far(post, words, block);
+        give_back_far(self.post(), self.into_words());
     }
 }
 
 #[cold]
 #[inline(never)]
-fn give_back_far<T: Clear>(post: Post<'static, T>, words: (Key, u64), block: Block<T>) {
-    let begun = Begun::from_words(post, words, block, Far);
+fn give_back_far<T: Clear>(post: Post<'static, T>, words: (NonNull<T>, Key, u64)) {
+    // SAFETY: they are those of a filling, which is spent here.
+    let begun = unsafe { Begun::from_words(post, words, Far) };
     // SAFETY: it is of its own lane, and is a user of it.
     unsafe { post.far_give_back(begun) };
 }

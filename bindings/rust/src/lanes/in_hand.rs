@@ -8,7 +8,7 @@ use super::who::Number;
 use crate::clear::Clear;
 use crate::errors::{CreateError, GetError};
 use crate::key::Key;
-use crate::object::Block;
+use crate::object::Brought;
 use crate::pool::Pool;
 use std::marker::PhantomData;
 use std::mem::ManuallyDrop;
@@ -156,13 +156,13 @@ impl<T: Clear> Drop for Hand<'_, T> {
 #[inline(never)]
 fn create_apart_in_any<'s, T: Clear + Default>(
     own: Own<'s, T, Near<'s, T>>,
-    block: Block<T>,
+    brought: Brought<T>,
 ) -> Result<Begun<'s, T, InHand<T>>, CreateError> {
     if own.room().is_elsewhere(own.post().number()) {
-        own.put_away(block);
+        own.take_back(brought);
         return create_further(own);
     }
-    match own.create_apart(block) {
+    match own.create_apart(brought) {
         Err(CreateError::Full) => create_further(own),
         created => created,
     }
@@ -220,10 +220,8 @@ impl<'l, T: Clear> Begun<'l, T, InHand<T>> {
 
     /// Leaves its place as it is. The object is emptied, and used in another place.
     pub(crate) fn forget(self) {
-        let own = self.own();
-        let (_, (_, start), block) = self.into_words();
-        own.leave(start);
-        own.let_go(block);
+        // SAFETY: it is of its own lane.
+        unsafe { self.own().forget(self) };
     }
 }
 
@@ -231,16 +229,16 @@ impl<T: Clear> Spend for Begun<'_, T, InHand<T>> {
     #[inline(always)]
     fn spend(self) {
         // (By its words: a filling whose address isn't told stays in registers.)
-        let (post, words, block) = self.into_words();
-        give_back_in_hand(post, words, block);
+        give_back_in_hand(self.post(), self.into_words());
     }
 }
 
 #[cold]
 #[inline(never)]
-fn give_back_in_hand<T: Clear>(post: Post<'_, T>, words: (Key, u64), block: Block<T>) {
+fn give_back_in_hand<T: Clear>(post: Post<'_, T>, words: (NonNull<T>, Key, u64)) {
     let way = InHand::of(post.segment());
-    let begun = Begun::from_words(post, words, block, way);
+    // SAFETY: they are those of a filling, which is spent here.
+    let begun = unsafe { Begun::from_words(post, words, way) };
     let own = begun.own();
     give_back(begun, |begun, is_empty| {
         // SAFETY: it is of its own lane.

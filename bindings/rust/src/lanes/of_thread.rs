@@ -11,7 +11,7 @@ use super::who::Caller;
 use crate::clear::Clear;
 use crate::errors::{CreateError, GetError};
 use crate::key::Key;
-use crate::object::Block;
+use crate::object::Brought;
 use std::ptr::{self, NonNull};
 
 /// Which way a thread calls for what a call of the pool gave it.
@@ -48,7 +48,7 @@ impl<T: Clear> Room<T> {
         T: Default,
     {
         let begun = match self.known() {
-            Some(own) => own.create(|own, block| self.create_apart(own, block)),
+            Some(own) => own.create(|own, brought| self.create_apart(own, brought)),
             None => Begun::by_parts(self.create_by_caller()),
         };
         begun.map(Spent::new)
@@ -61,7 +61,7 @@ impl<T: Clear> Room<T> {
     {
         self.first()?;
         match self.caller_for_create() {
-            Caller::Own(own) => own.create(|own, block| self.create_apart(own, block)),
+            Caller::Own(own) => own.create(|own, brought| self.create_apart(own, brought)),
             Caller::Sharing => self.create_by_sharing(),
         }
     }
@@ -72,18 +72,18 @@ impl<T: Clear> Room<T> {
     fn create_apart<'s>(
         &'s self,
         own: Own<'s, T>,
-        block: Block<T>,
+        brought: Brought<T>,
     ) -> Result<Begun<'s, T, OfThread>, CreateError>
     where
         T: Default,
     {
         if !self.passes(own.post().number()) {
-            return match own.create_apart(block) {
+            return match own.create_apart(brought) {
                 Err(CreateError::Full) => self.create_further(Some(own)),
                 created => created,
             };
         }
-        own.put_away(block);
+        own.take_back(brought);
         match self.create_by_last(|_| None, |_| ()) {
             Some(begun) => Ok(begun),
             None => self.create_further(Some(own)),
@@ -287,10 +287,7 @@ impl<'p, T: Clear> Begun<'p, T, OfThread> {
         match self.way() {
             // SAFETY: it is of its own lane.
             Way::Own(own) => unsafe { own.publish(self) },
-            Way::Shared(_) | Way::Left(_) => {
-                let (post, words, block) = self.into_words();
-                publish_locked(post, words, block)
-            }
+            Way::Shared(_) | Way::Left(_) => publish_locked(self.post(), self.into_words()),
         }
     }
 
@@ -320,8 +317,9 @@ impl<'p, T: Clear> Begun<'p, T, OfThread> {
 
 /// A publish under the lock. (By its parts, which stay in registers.)
 #[inline(never)]
-fn publish_locked<T: Clear>(post: Post<'_, T>, words: (Key, u64), block: Block<T>) -> Key {
-    let begun = Begun::from_words(post, words, block, OfThread);
+fn publish_locked<T: Clear>(post: Post<'_, T>, words: (NonNull<T>, Key, u64)) -> Key {
+    // SAFETY: they are those of a filling, which is spent here.
+    let begun = unsafe { Begun::from_words(post, words, OfThread) };
     // SAFETY: no thread has such a lane alone, and it is of its own lane.
     unsafe { post.locked(|turn, _| turn.publish(begun)) }
 }
@@ -330,15 +328,15 @@ impl<T: Clear> Spend for Begun<'_, T, OfThread> {
     #[inline(always)]
     fn spend(self) {
         // (By its words: a filling whose address isn't told stays in registers.)
-        let (post, words, block) = self.into_words();
-        give_back_of_thread(post, words, block);
+        give_back_of_thread(self.post(), self.into_words());
     }
 }
 
 #[cold]
 #[inline(never)]
-fn give_back_of_thread<T: Clear>(post: Post<'_, T>, words: (Key, u64), block: Block<T>) {
-    let begun = Begun::from_words(post, words, block, OfThread);
+fn give_back_of_thread<T: Clear>(post: Post<'_, T>, words: (NonNull<T>, Key, u64)) {
+    // SAFETY: they are those of a filling, which is spent here.
+    let begun = unsafe { Begun::from_words(post, words, OfThread) };
     give_back(begun, |begun, is_empty| match begun.way() {
         // SAFETY: it is of its own lane.
         Way::Own(own) => unsafe { own.publish_and_clear(begun, is_empty) },

@@ -3,11 +3,11 @@ use super::room::Room;
 use super::seat::{Near, Post, Stands};
 use super::segment::Segment;
 use super::token::{Begun, By, Held};
-use super::turn::{with_new, with_page, Short, Turn};
+use super::turn::{with_new, with_page, AtHand, Short, Turn};
 use crate::clear::Clear;
 use crate::errors::{CreateError, GetError};
 use crate::key::Key;
-use crate::object::Block;
+use crate::object::{Block, Brought};
 use std::marker::PhantomData;
 use std::mem;
 use std::panic::{self, AssertUnwindSafe};
@@ -67,20 +67,10 @@ impl<'s, T: Clear, P: Stands<'s, T>> Own<'s, T, P> {
         }
     }
 
-    /// The place of a filling that isn't published is back for the close.
-    pub(super) fn leave(self, start: u64) {
-        self.turn().leave(start);
-    }
-
     /// Empties an object that was taken out of a place of this segment.
     #[inline(always)]
-    pub(super) fn let_go(self, mut block: Block<T>) {
-        if T::plain().0 {
-            block.clear();
-            self.put_away(block);
-        } else {
-            self.let_go_to(block, Own::put_away);
-        }
+    pub(super) fn let_go(self, block: Block<T>) {
+        self.let_go_to(block, Own::put_away);
     }
 
     /// The same of what a shared lane of this segment took out, whose block is carried then.
@@ -189,20 +179,29 @@ impl<'s, T: Clear, P: Stands<'s, T>> Own<'s, T, P> {
     #[inline(always)]
     pub(super) fn create<W: By<T>>(
         self,
-        apart: impl FnOnce(Self, Block<T>) -> Result<Begun<'s, T, W>, CreateError>,
+        apart: impl FnOnce(Self, Brought<T>) -> Result<Begun<'s, T, W>, CreateError>,
     ) -> Result<Begun<'s, T, W>, CreateError>
     where
         T: Default,
     {
-        let block = match self.turn().spare() {
-            Some(block) => block,
-            // SAFETY: the thread has the lane alone.
-            None => unsafe { make(self.post()) }?,
-        };
-        match self.turn().create_short(block) {
+        let brought = self.bring()?;
+        match self.turn().create(brought, AtHand::Listed) {
             Ok(begun) => Ok(begun),
             Err(Short::Failed(error)) => Err(error),
-            Err(Short::NoPlace(block)) => Begun::by_parts(self.create_behind(block, apart)),
+            Err(Short::NoPlace(brought)) => Begun::by_parts(self.create_behind(brought, apart)),
+        }
+    }
+
+    /// What a filling begins with.
+    #[inline(always)]
+    fn bring(self) -> Result<Brought<T>, CreateError>
+    where
+        T: Default,
+    {
+        match self.turn().bring() {
+            Some(brought) => Ok(brought),
+            // SAFETY: the thread has the lane alone.
+            None => unsafe { make(self.post()) }.map(Brought::Block),
         }
     }
 
@@ -210,13 +209,16 @@ impl<'s, T: Clear, P: Stands<'s, T>> Own<'s, T, P> {
     #[inline(never)]
     fn create_behind<W: By<T>>(
         self,
-        block: Block<T>,
-        apart: impl FnOnce(Self, Block<T>) -> Result<Begun<'s, T, W>, CreateError>,
-    ) -> Result<Begun<'s, T, W>, CreateError> {
-        match self.turn().create_at_hand(block) {
+        brought: Brought<T>,
+        apart: impl FnOnce(Self, Brought<T>) -> Result<Begun<'s, T, W>, CreateError>,
+    ) -> Result<Begun<'s, T, W>, CreateError>
+    where
+        T: Default,
+    {
+        match self.turn().create(brought, AtHand::Any) {
             Ok(begun) => Ok(begun),
             Err(Short::Failed(error)) => Err(error),
-            Err(Short::NoPlace(block)) => apart(self, block),
+            Err(Short::NoPlace(brought)) => apart(self, brought),
         }
     }
 
@@ -233,9 +235,14 @@ impl<'s, T: Clear, P: Stands<'s, T>> Own<'s, T, P> {
     #[inline(never)]
     pub(super) fn create_apart<W: By<T>>(
         self,
-        block: Block<T>,
-    ) -> Result<Begun<'s, T, W>, CreateError> {
-        with_page(block, |block, ready| self.turn().create_apart(block, ready))
+        brought: Brought<T>,
+    ) -> Result<Begun<'s, T, W>, CreateError>
+    where
+        T: Default,
+    {
+        with_page(brought, |brought, ready| {
+            self.turn().create_apart(brought, ready)
+        })
     }
 
     /// The same, with its segment beside it.
@@ -304,8 +311,14 @@ impl<'s, T: Clear, P: Stands<'s, T>> Own<'s, T, P> {
 
     /// A block whose object is empty.
     #[inline(always)]
-    pub(super) fn put_away(self, block: Block<T>) {
+    fn put_away(self, block: Block<T>) {
         self.turn().put_away(block);
+    }
+
+    /// What a create doesn't use.
+    #[inline]
+    pub(super) fn take_back(self, brought: Brought<T>) {
+        self.turn().take_back(brought);
     }
 }
 
@@ -348,6 +361,18 @@ impl<'s, T: Clear, P: Stands<'s, T>> Own<'s, T, P> {
     ) -> Option<Block<T>> {
         // SAFETY: the caller's.
         unsafe { self.turn().publish_and_clear(begun, is_empty) }
+    }
+
+    /// Leaves the place of a filling as it is. The object is emptied, and used in another place; but a plain one stays there.
+    ///
+    /// # Safety
+    ///
+    /// It is of this lane.
+    pub(super) unsafe fn forget<W>(self, begun: Begun<'_, T, W>) {
+        // SAFETY: the caller's.
+        if let Some(block) = unsafe { self.turn().leave(begun) } {
+            self.let_go(block);
+        }
     }
 
     /// Gives a reference back.

@@ -2,7 +2,7 @@
 use super::lock::rest;
 use super::seat::Post;
 use super::segment::{row_for, Segment, Sight};
-use super::sizes::{is_widest, shape_of, FOR_LANES, LANES, SHARED, WIDEST};
+use super::sizes::{is_for_all, is_for_many, shape_of, FOR_LANES, LANES, SHARED};
 use super::who::{first_bits, Lanes};
 use crate::clear::Clear;
 use crate::erased::keybits::{tag_of, GREATEST_TAG, MOST_LANES};
@@ -253,23 +253,23 @@ impl<T: Clear> Room<T> {
     }
 
     /// Whether a thread whose own lane is full has a further segment opened, rather than turn to the lanes that all share: where many
-    /// threads have lanes, up to the first of the widest; and before that, where as many creates have passed its lane by as the shared
-    /// ones have places in that segment. (Their locks took about as long as the segment takes to open.)
+    /// threads have lanes; and else where as many creates have passed its lane by as the shared ones have places in that segment. (Their
+    /// locks took about as long as the segment takes to open.) But not where many segments are there already.
     pub(super) fn grows_first(&self, count: usize, number: u32) -> bool {
         let passed = &self.creates_of(number).all_passed;
         let pays = |growth: Growth| {
             let next = shape_of(count, self.lanes.count(), growth).checked();
             let places = next.map_or(u32::MAX, |next| SHARED * next.shard_places());
-            !is_widest(count) && passed.load(Ordering::Relaxed) >= places
+            !is_for_all(count) && passed.load(Ordering::Relaxed) >= places
         };
-        let are_many = || count < WIDEST && self.lanes.are_many_taken();
+        let are_many = || is_for_many(count) && self.lanes.are_many_taken();
         self.growth.is_some_and(|growth| are_many() || pays(growth))
     }
 
-    /// Whether a lane that nobody has is lent to all, rather than that a segment is opened behind so many: where that is one of the widest,
-    /// as long as many are at home.
+    /// Whether a lane that nobody has is lent to all, rather than that a segment is opened behind so many: where these are
+    /// some, as long as many are at home.
     pub(super) fn lends(&self, count: usize) -> bool {
-        self.grows() && is_widest(count) && self.lanes.are_many_home()
+        self.grows() && is_for_all(count) && self.lanes.are_many_home()
     }
 
     /// Opens a further segment, unless there are other than so many by now. Where another thread opens one, it waits a while for that:

@@ -1,26 +1,23 @@
 //! The seats of a segment: each has a lane of the proved pool, with its blocks.
 use super::lock::{Had, Lock};
+use super::proved::ProvedLane;
 use super::segment::Segment;
 use super::turn::Turn;
-use super::ProvedLane;
 use crate::clear::Clear;
 use crate::erased::keybits;
-use crate::object::{Block, Chain, Chunks, Object, Returned};
+use crate::object::{Block, Chain, Chunks, Placed, Returned};
 use crate::sync::{self, AtomicBool, AtomicU32, Ordering};
 use std::cell::UnsafeCell;
 use std::marker::PhantomData;
-use std::mem::{self, ManuallyDrop};
+use std::mem;
 use std::ptr::{self, NonNull};
 
 /// A lane of the proved pool with its blocks, on lines of the cache of its own.
 #[repr(align(128))]
 pub(super) struct Seat<T: Clear> {
-    pub(super) lane: UnsafeCell<ManuallyDrop<ProvedLane<T>>>,
+    pub(super) lane: UnsafeCell<ProvedLane<T>>,
     pub(super) store: UnsafeCell<Store<T>>,
     pub(super) number: u32,
-    /// The address of the first object of the lane's own places, and how many bytes those take, side by side. (It is asked within calls,
-    /// which have the lane itself.)
-    own: (usize, usize),
     /// Whether a block of it ever came home.
     have_come: AtomicBool,
     /// How many fillings its lane has, and how many pages it opened: for a census, and written by the lane alone.
@@ -32,8 +29,10 @@ pub(super) struct Seat<T: Clear> {
     segment: UnsafeCell<*const Segment<T>>,
 }
 
-/// The blocks of a lane that are in no place.
+/// The blocks of a lane that are in no place; of a plain type none.
 pub(super) struct Store<T> {
+    /// Of a plain type: the place of the lane's own that it emptied last, if it began no filling since. So it rests with the lane.
+    pub(super) warm: Option<NonNull<Placed<T>>>,
     /// With an empty object. The one that was used last goes first, so that those in use stay warm.
     pub(super) spare: Chain<T>,
     /// What the call under way took out of a place: one block at most, and none between calls.
@@ -90,15 +89,12 @@ unsafe impl<T: Clear + Send + Sync> Sync for Seat<T> {}
 unsafe impl<T: Clear + Send> Send for Seat<T> {}
 
 impl<T: Clear> Seat<T> {
-    pub(super) fn new(lane: ProvedLane<T>) -> Seat<T> {
-        let (objects, places) = (&lane.state.objects, lane.state.shape.shard_places());
-        let first = objects.base().ptr.wrapping_add(objects.first());
-        let bytes = places as usize * mem::size_of::<Object<T>>();
+    pub(super) fn new(number: u32, lane: ProvedLane<T>) -> Seat<T> {
         Seat {
-            number: lane.number(),
-            own: (first as usize, bytes),
-            lane: UnsafeCell::new(ManuallyDrop::new(lane)),
+            number,
+            lane: UnsafeCell::new(lane),
             store: UnsafeCell::new(Store {
+                warm: None,
                 spare: Chain::new(),
                 taken: Chain::new(),
                 used: Chain::new(),
@@ -115,11 +111,15 @@ impl<T: Clear> Seat<T> {
         }
     }
 
-    /// Whether an object of the segment's places stands in one of the lane's own.
-    #[inline(always)]
-    pub(super) fn has(&self, object: &Object<T>) -> bool {
-        let (first, bytes) = self.own;
-        (ptr::from_ref(object) as usize).wrapping_sub(first) < bytes
+    /// The lane goes to the close.
+    ///
+    /// # Safety
+    ///
+    /// It goes once.
+    pub(super) unsafe fn take_lane(&mut self) -> ProvedLane<T> {
+        sync::writes(self.lane.get(), "a lane that is closed");
+        // SAFETY: the caller's.
+        unsafe { self.lane.get().read() }
     }
 
     /// A close finds its blocks that are in no place.

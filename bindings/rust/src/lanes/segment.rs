@@ -1,19 +1,17 @@
 //! A segment: a proved pool with its lanes.
+use super::proved::{of_either, Either, Opened, ProvedPool};
 use super::room::Room;
 use super::seat::{Near, Post, Seat};
-use super::turn::Call;
 use super::who::first_bits;
-use super::{ProvedLane, ProvedPool};
 use crate::clear::Clear;
 use crate::erased::keybits::{self, generation_of, Life, State};
-use crate::erased::poolsteps::{life_word, Spot, BYTES_APART, SHARDS_APART};
-use crate::erased::shardpool;
+use crate::erased::poolsteps::{life_at, shard_start, BYTES_APART, SHARDS_APART};
 use crate::errors::OpenError;
 use crate::key::Key;
 use crate::object::{self, Returned};
 use crate::pool::{Census, Shape};
-use crate::shim::{self, Global, RowBlock};
-use crate::sync::{self, AtomicPtr, Ordering};
+use crate::shim::{self, RowBlock};
+use crate::sync::{AtomicPtr, Ordering};
 use std::mem::{self, ManuallyDrop};
 use std::ptr::{self, NonNull};
 
@@ -25,8 +23,6 @@ pub(crate) struct Segment<T: Clear> {
     returned: ManuallyDrop<Vec<Returned<T>>>,
     /// How many lanes are of the pool's shape: all, or all but the last, which threads share.
     told: u32,
-    /// Where the proved lanes go for the close, which takes no memory: the row in which they came.
-    row: ManuallyDrop<shim::Vec<ProvedLane<T>>>,
     /// Memory for rows of the proved lanes, which go with the close.
     rows: ManuallyDrop<RowBlock>,
     /// The pool of which it is a segment, once it stands there.
@@ -75,18 +71,22 @@ impl<T: Clear> Segment<T> {
         let mut returned = row_for(count * count)?;
         returned.resize_with(count * count, Returned::new);
         let rows = RowBlock::for_rows(rows_of(&checked)).ok_or(OpenError::Memory)?;
-        let call = Call;
-        // SAFETY: the block goes behind the close, and a call that panics ends the process.
-        let opened = unsafe { rows.within(|| shardpool::open_wide(Global, checked)) };
-        call.end();
-        let (proved, mut lanes) = opened?;
-        seats.extend(lanes.drain().map(Seat::new));
+        let proved = if T::plain().0 {
+            let mut opened = Opened::open(checked, &rows)?;
+            let lanes = opened.lanes();
+            seats.extend(lanes.map(|lane| Seat::new(lane.number(), Either::placed(lane))));
+            Either::placed(opened)
+        } else {
+            let mut opened = Opened::open(checked, &rows)?;
+            let lanes = opened.lanes();
+            seats.extend(lanes.map(|lane| Seat::new(lane.number(), Either::hooked(lane))));
+            Either::hooked(opened)
+        };
         Ok(Segment {
             proved: ManuallyDrop::new(proved),
             seats: ManuallyDrop::new(seats),
             returned: ManuallyDrop::new(returned),
             told,
-            row: ManuallyDrop::new(lanes),
             rows: ManuallyDrop::new(rows),
             room: AtomicPtr::new(ptr::null_mut()),
         })
@@ -116,6 +116,22 @@ impl<T: Clear> Segment<T> {
     #[inline(always)]
     pub(super) fn proved(&self) -> &ProvedPool<T> {
         &self.proved
+    }
+
+    fn shape(&self) -> keybits::Shape {
+        of_either!(T, self.proved, |opened| opened.pool.shape())
+    }
+
+    /// The life word of the place that stands there, as a load tells.
+    #[inline(always)]
+    fn life(&self, start: usize) -> u64 {
+        let word = life_at(start);
+        of_either!(T, self.proved, |opened| opened
+            .pool
+            .grid
+            .table
+            .shared
+            .peek(word))
     }
 
     #[inline]
@@ -166,7 +182,7 @@ impl<T: Clear> Segment<T> {
 
     /// The places of unopened pages of the lane that isn't told: they aren't counted.
     fn untold(&self) -> u32 {
-        let shape = self.proved.shape();
+        let shape = self.shape();
         let untold = self.seats.iter().skip(self.told as usize);
         untold
             .map(|seat| shape.shard_places() - seat.opened_places(&shape))
@@ -183,12 +199,13 @@ impl<T: Clear> Segment<T> {
     #[inline(always)]
     pub(super) fn sight(&self, key: Key) -> Sight {
         let number = u64::from(key);
-        let Some(spot) = self.proved.find(number) else {
+        let found = of_either!(T, self.proved, |opened| opened.pool.find(number));
+        let Some(spot) = found else {
             return Sight::Foreign;
         };
+        let life = self.life(spot.start as usize);
         // (Where tests watch the steps, those of a miss are made.)
-        let word = self.proved.grid.table.shared.peek(self.life_of(spot));
-        let is_gone = !cfg!(pardz_trace) && (word >> 32) as u32 > generation_of(number);
+        let is_gone = !cfg!(pardz_trace) && (life >> 32) as u32 > generation_of(number);
         if is_gone {
             self.look_at(spot.place);
             return Sight::Gone;
@@ -196,17 +213,14 @@ impl<T: Clear> Segment<T> {
         Sight::There(spot.start)
     }
 
-    /// The object of the place that stands there is fetched ahead, while a call waits for the words in front of it.
+    /// The pointer to an object that a clear takes out of the place that stands there is fetched ahead, while the call waits for the words
+    /// in front of it. (A plain object stays in its place, which the clear doesn't look at.)
     #[inline(always)]
     pub(super) fn fetch_ahead(&self, start: u32) {
-        let objects = self.proved.grid.objects.ptr;
-        shim::fetch_ahead(objects.wrapping_add(start as usize));
-    }
-
-    /// Where the life word of a place stands. (Those of all stand side by side, so it is that of a position of the first shard.)
-    #[inline(always)]
-    fn life_of(&self, spot: Spot) -> usize {
-        life_word(&self.proved.grid.shape, 0, spot.start as usize)
+        if !T::plain().0 {
+            let objects = self.proved.as_hooked().pool.grid.objects.ptr;
+            shim::fetch_ahead(objects.wrapping_add(start as usize));
+        }
     }
 
     /// A generation grows alone, so a key that is gone stays it. This load stands among the steps, and so does what is answered then. (It
@@ -214,20 +228,24 @@ impl<T: Clear> Segment<T> {
     #[cold]
     #[inline(never)]
     fn look_at(&self, place: u32) {
-        let grid = &self.proved.grid;
-        grid.table.shared.look(self.life_of(grid.spot(place)));
+        of_either!(T, self.proved, |opened| {
+            let grid = &opened.pool.grid;
+            grid.table
+                .shared
+                .look(life_at(grid.spot(place).start as usize));
+        });
     }
 
     /// What the places are now.
     pub(super) fn census(&self) -> Census {
-        let shape = self.proved.shape();
+        let shape = self.shape();
         let mut census = Census::default();
         for (shard, seat) in self.seats.iter().enumerate() {
             let (places, opened) = (shape.shard_places(), seat.opened_places(&shape));
-            let first = shard * places as usize;
+            let first = shard_start(&shape, shard as u32);
             let mut idle = 0;
-            for position in first..first + opened as usize {
-                match self.state_at(&shape, position) {
+            for start in first..first + opened as usize {
+                match Life::of_word(self.life(start)).state {
                     State::Idle => idle += 1,
                     State::Present => census.present += 1,
                     State::Marked => census.marked += 1,
@@ -243,12 +261,6 @@ impl<T: Clear> Segment<T> {
         census
     }
 
-    /// What the place of this position is now.
-    fn state_at(&self, shape: &keybits::Shape, position: usize) -> State {
-        let word = life_word(shape, shape.place_at(position), position);
-        Life::of_word(self.proved.grid.table.shared.peek(word)).state
-    }
-
     /// Closes the pool. No lane is out, for each borrows the pool, or has a share of it.
     pub(super) fn close(self) -> Census {
         ManuallyDrop::new(self).end()
@@ -258,23 +270,21 @@ impl<T: Clear> Segment<T> {
     fn end(&mut self) -> Census {
         let untold = self.untold();
         // SAFETY: taken once: by `close`, which forgets the pool, or by its drop.
-        let (proved, mut seats, returned, mut row, rows) = unsafe {
+        let (proved, mut seats, returned, rows) = unsafe {
             (
                 ManuallyDrop::take(&mut self.proved),
                 ManuallyDrop::take(&mut self.seats),
                 ManuallyDrop::take(&mut self.returned),
-                ManuallyDrop::take(&mut self.row),
                 ManuallyDrop::take(&mut self.rows),
             )
         };
-        for seat in &mut seats {
-            sync::writes(seat.lane.get(), "a lane that is closed");
-            // SAFETY: taken once, as above.
-            row.push_reserved(unsafe { ManuallyDrop::take(seat.lane.get_mut()) });
-        }
-        let call = Call;
-        let census = shardpool::close(proved, row);
-        call.end();
+        // SAFETY: taken once, as above.
+        let lanes = seats.iter_mut().map(|seat| unsafe { seat.take_lane() });
+        let census = if T::plain().0 {
+            proved.into_placed().close(lanes.map(Either::into_placed))
+        } else {
+            proved.into_hooked().close(lanes.map(Either::into_hooked))
+        };
         drop(rows);
         if object::FINDS_LOST {
             seats.iter_mut().for_each(Seat::find_blocks);

@@ -3,11 +3,11 @@
 use super::seat::{Joint, Post};
 use super::segment::Segment;
 use super::token::{Begun, By, Far, Held, OfThread};
-use super::turn::{with_new, with_page, Short, Turn};
+use super::turn::{with_new, with_page, AtHand, Short, Turn};
 use crate::clear::Clear;
 use crate::errors::{CreateError, GetError};
 use crate::key::Key;
-use crate::object::{Block, Chain};
+use crate::object::{Block, Brought, Chain};
 use crate::sync::thread_local;
 use std::any::Any;
 use std::cell::{Cell, RefCell};
@@ -46,15 +46,15 @@ fn get<'s, T: Clear, W: By<T>>(
     Ok(held.ok_or_else(|| taken(turn, joint)))
 }
 
-/// A create of a lane with a place on its own list.
+/// A create of a lane with a place at hand.
 #[inline(always)]
-fn create_short<'s, T: Clear, W: By<T>>(
+fn create_short<'s, T: Clear + Default, W: By<T>>(
     turn: &mut Turn<'s, T>,
     joint: &mut Joint,
-    block: Block<T>,
+    brought: Brought<T>,
     come: impl Fn(&mut Joint),
 ) -> Result<Begun<'s, T, W>, Short<T>> {
-    let begun = turn.create_at_hand(block)?;
+    let begun = turn.create(brought, AtHand::Any)?;
     come(joint);
     Ok(begun)
 }
@@ -64,14 +64,15 @@ impl<'s, T: Clear> Post<'s, T> {
     #[inline]
     pub(super) fn shared_create<W: By<T>>(
         self,
-        block: Option<Block<T>>,
+        carried: Option<Block<T>>,
         come: impl Fn(&mut Joint),
     ) -> Result<Result<Begun<'s, T, W>, CreateError>, NotShared>
     where
         T: Default,
     {
-        let begun = self.shared(|turn, joint| match block.or_else(|| turn.spare_or_new()) {
-            Some(block) => Ok(create_short(turn, joint, block, &come)),
+        let carried = carried.map(Brought::Block);
+        let begun = self.shared(|turn, joint| match carried.or_else(|| turn.bring()) {
+            Some(brought) => Ok(create_short(turn, joint, brought, &come)),
             None => Err(turn.wants()),
         });
         match begun.ok_or(NotShared)? {
@@ -86,12 +87,15 @@ impl<'s, T: Clear> Post<'s, T> {
         self,
         begun: Result<Begun<'s, T, W>, Short<T>>,
         come: impl Fn(&mut Joint),
-    ) -> Result<Result<Begun<'s, T, W>, CreateError>, NotShared> {
+    ) -> Result<Result<Begun<'s, T, W>, CreateError>, NotShared>
+    where
+        T: Default,
+    {
         match begun {
             Ok(begun) => Ok(Ok(begun.shared())),
             Err(Short::Failed(error)) => Ok(Err(error)),
-            Err(Short::NoPlace(block)) => {
-                self.shared_create_apart(block, come).map(Begun::by_parts)
+            Err(Short::NoPlace(brought)) => {
+                self.shared_create_apart(brought, come).map(Begun::by_parts)
             }
         }
     }
@@ -110,7 +114,7 @@ impl<'s, T: Clear> Post<'s, T> {
         let begun = with_new(wanted, |object, chunk| {
             let begun = self.shared(|turn, joint| {
                 let block = turn.put(object, chunk)?;
-                Ok(create_short(turn, joint, block, &come))
+                Ok(create_short(turn, joint, Brought::Block(block), &come))
             });
             match begun {
                 Some(Ok(begun)) => Ok(Ok(begun)),
@@ -129,12 +133,15 @@ impl<'s, T: Clear> Post<'s, T> {
     #[inline(never)]
     fn shared_create_apart<W: By<T>>(
         self,
-        block: Block<T>,
+        brought: Brought<T>,
         come: impl Fn(&mut Joint),
-    ) -> Result<Result<Begun<'s, T, W>, CreateError>, NotShared> {
-        let created = with_page(block, |block, ready| {
+    ) -> Result<Result<Begun<'s, T, W>, CreateError>, NotShared>
+    where
+        T: Default,
+    {
+        let created = with_page(brought, |brought, ready| {
             let created = self.shared(|turn, joint| {
-                let begun = turn.create_apart(block, ready)?;
+                let begun = turn.create_apart(brought, ready)?;
                 come(joint);
                 Ok(begun.shared())
             });

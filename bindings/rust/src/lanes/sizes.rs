@@ -6,18 +6,25 @@ use crate::pool::{Growth, Shape};
 pub(super) const LANES: u32 = 16;
 pub(super) const SHARED: u32 = 4;
 
-/// How many segments there are with the first of the widest.
-pub(super) const WIDEST: usize = 6;
+/// How many segments are smaller than the widest.
+const NARROW: usize = 16;
+
+/// Behind so many segments, lanes that nobody has are lent to all before a further one is opened.
+const FOR_ALL: usize = 5;
+
+/// Where many threads have lanes, those of which one is full have a further segment opened at once, up to so many.
+const FOR_MANY: usize = 9;
 
 /// A segment that is opened for the sake of its lanes is as large as the one behind so many, and no larger.
 pub(super) const FOR_LANES: usize = 3;
 
 /// The shape of a segment, counted from the first, but for its tag: that is small, and each is larger than the one before, up to the
-/// widest, which is the sixth. (To open and close one takes time for each of its places.)
+/// fifth, and then as large; and later ones are the widest. (To open and close one takes time for each of its places, and memory.)
 pub(super) fn shape_of(index: usize, lanes: u32, growth: Growth) -> Shape {
-    let (first_page, pages) = match (index as u32).checked_sub(1) {
-        None => (LARGEST_FIRST_PAGE / 2, 1),
-        Some(further) => (LARGEST_FIRST_PAGE, 1 << further.min(MOST_PAGES.ilog2())),
+    let (first_page, pages) = match index {
+        0 => (LARGEST_FIRST_PAGE / 2, 1),
+        NARROW.. => (LARGEST_FIRST_PAGE, MOST_PAGES),
+        _ => (LARGEST_FIRST_PAGE, 1 << (index - 1).min(3)),
     };
     let narrow = Shape {
         lanes: LANES,
@@ -49,7 +56,32 @@ fn places_of(shape: Shape) -> u32 {
     shape.checked().map_or(0, places)
 }
 
-/// Whether a segment behind so many is one of the widest.
-pub(super) fn is_widest(count: usize) -> bool {
-    count + 1 >= WIDEST
+/// Whether lanes that nobody has are lent before a segment behind so many is opened.
+pub(super) fn is_for_all(count: usize) -> bool {
+    count >= FOR_ALL
+}
+
+/// Whether a segment behind so many is opened where many threads have lanes, of which one is full.
+pub(super) fn is_for_many(count: usize) -> bool {
+    count < FOR_MANY
+}
+
+#[cfg(test)]
+mod tests {
+    use super::*;
+
+    #[test]
+    fn segments_become_wide() {
+        let growth = Growth::default();
+        let places = |index, lanes| places_of(shape_of(index, lanes, growth));
+        let of_a_lane = [32, 64, 192, 960, 12_224, 12_224];
+        for (index, size) in (0..).zip(of_a_lane) {
+            assert_eq!(places(index, LANES), LANES * size);
+        }
+        assert_eq!(places(15, LANES), LANES * 12_224);
+        for index in [16, 17, 255] {
+            assert_eq!(places(index, LANES), LANES * 44_992);
+        }
+        assert!(places(15, 64) >= places(15, LANES));
+    }
 }

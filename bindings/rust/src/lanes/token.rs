@@ -3,7 +3,6 @@ use super::seat::Post;
 use super::segment::Segment;
 use crate::clear::Clear;
 use crate::key::Key;
-use crate::object::Block;
 use std::mem::ManuallyDrop;
 use std::ops::{Deref, DerefMut};
 use std::ptr::NonNull;
@@ -151,12 +150,12 @@ impl<'s, T: Clear, W> Held<'s, T, W> {
     }
 }
 
-/// A proved filling, taken apart: its key, where the key's place stands, and a block with its object.
+/// A proved filling, taken apart: its key, where the key's place stands, and where its object does.
 pub(crate) struct Begun<'s, T: Clear, W> {
     post: Post<'s, T>,
     key: Key,
     start: u64,
-    block: Block<T>,
+    object: NonNull<T>,
     pub(super) way: W,
 }
 
@@ -168,14 +167,14 @@ impl<'s, T: Clear, W> Begun<'s, T, W> {
             post,
             key,
             start,
-            block,
+            object,
             way,
         } = begun?;
         Ok(Begun {
             post,
             key,
             start,
-            block,
+            object,
             way,
         })
     }
@@ -184,24 +183,32 @@ impl<'s, T: Clear, W> Begun<'s, T, W> {
     pub(super) fn new(
         post: Post<'s, T>,
         (key, start): (Key, u32),
-        block: Block<T>,
+        object: NonNull<T>,
         way: W,
     ) -> Self {
-        Begun::from_words(post, (key, u64::from(start)), block, way)
+        Begun {
+            post,
+            key,
+            start: u64::from(start),
+            object,
+            way,
+        }
     }
 
+    /// # Safety
+    ///
+    /// They are the words of one that `into_words` spent.
     #[inline(always)]
-    pub(super) fn from_words(
+    pub(super) unsafe fn from_words(
         post: Post<'s, T>,
-        (key, start): (Key, u64),
-        block: Block<T>,
+        (object, key, start): (NonNull<T>, Key, u64),
         way: W,
     ) -> Self {
         Begun {
             post,
             key,
             start,
-            block,
+            object,
             way,
         }
     }
@@ -213,17 +220,19 @@ impl<'s, T: Clear, W> Begun<'s, T, W> {
 
     #[inline(always)]
     pub(crate) fn object(&self) -> &T {
-        &self.block
+        // SAFETY: the object of a filling is this one's alone.
+        unsafe { self.object.as_ref() }
     }
 
     #[inline(always)]
     pub(crate) fn object_mut(&mut self) -> &mut T {
-        &mut self.block
+        // SAFETY: as above, and `self` is borrowed for writing.
+        unsafe { self.object.as_mut() }
     }
 
     #[inline(always)]
     pub(super) fn address(&self) -> NonNull<T> {
-        self.block.address()
+        self.object
     }
 
     #[inline(always)]
@@ -243,16 +252,16 @@ impl<'s, T: Clear, W> Begun<'s, T, W> {
         self.start & SHARED != 0
     }
 
-    /// What the proved pool knows of it, and the block.
+    /// What the proved pool knows of it, and its object.
     #[inline(always)]
-    pub(super) fn into_proved(self) -> (u64, u32, Block<T>) {
-        (self.key.into(), self.start as u32, self.block)
+    pub(super) fn into_proved(self) -> (u64, u32, NonNull<T>) {
+        (self.key.into(), self.start as u32, self.object)
     }
 
-    /// As words and its block, for calls that have them in registers.
+    /// As words, for calls that have them in registers.
     #[inline(always)]
-    pub(super) fn into_words(self) -> (Post<'s, T>, (Key, u64), Block<T>) {
-        (self.post, (self.key, self.start), self.block)
+    pub(super) fn into_words(self) -> (NonNull<T>, Key, u64) {
+        (self.object, self.key, self.start)
     }
 }
 

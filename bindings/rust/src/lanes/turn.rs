@@ -1,14 +1,15 @@
 //! The calls of the proved pool. None runs code of others: what that is to empty comes back as a block.
-use super::emptying::{left, Emptying};
+use super::emptying::Emptying;
+use super::proved::{of_either, ProvedLane, ProvedPool};
 use super::seat::{Post, Stands, Store};
 use super::token::{Begun, By, Held};
-use super::{ProvedFilling, ProvedLane, ProvedPool, ProvedRef};
 use crate::clear::Clear;
 use crate::erased::poolsteps::{stack_word, Whole};
-use crate::erased::shardpool::{self, CreateFault, MOST_REFERENCES};
+use crate::erased::shardpool::{self, CreateFault, Emptier, Ref, MOST_REFERENCES};
+use crate::erased::slotcell;
 use crate::errors::{CreateError, GetError, MemoryRefused};
 use crate::key::Key;
-use crate::object::{Block, Chain, Chunk, Crowded, Object};
+use crate::object::{Block, Brought, Chain, Chunk, Crowded, Hooked, Placed, Stored};
 use crate::shim::{Global, Ready};
 use crate::sync::{self, AtomicU32, Ordering};
 use std::marker::PhantomData;
@@ -34,24 +35,86 @@ impl Drop for Call {
 
 /// The cell of a filling's place, as the proved calls have it: it has no bytes.
 #[inline(always)]
-fn cell<T>() -> Whole<Object<T>> {
-    const { assert!(mem::size_of::<Whole<Object<T>>>() == 0) };
+fn cell<O>() -> Whole<O> {
+    const { assert!(mem::size_of::<Whole<O>>() == 0) };
     // SAFETY: it has no bytes, and who calls this has the filling of the place.
-    unsafe { NonNull::<Whole<Object<T>>>::dangling().as_ptr().read() }
+    unsafe { NonNull::<Whole<O>>::dangling().as_ptr().read() }
+}
+
+/// Which places a create may take.
+#[derive(Clone, Copy)]
+pub(super) enum AtHand {
+    /// Those of the lane's own list.
+    Listed,
+    /// These, and those that it took back.
+    Any,
 }
 
 /// What a create without memory of its own needs.
 pub(super) enum Short<T> {
-    /// The lane has no place at hand: the block comes back.
-    NoPlace(Block<T>),
+    /// The lane has no place at hand: what was brought comes back.
+    NoPlace(Brought<T>),
     Failed(CreateError),
 }
 
 /// Why a create without a place at hand gives none.
 pub(super) enum Apart<T> {
-    /// Its next page has so many places, for which no memory is ready: the block comes back.
-    Page(usize, Block<T>),
+    /// Its next page has so many places, for which no memory is ready: what was brought comes back.
+    Page(usize, Brought<T>),
     Failed(CreateError),
+}
+
+/// What a filling is made of: its key, where the key's place stands, and where its object does.
+type Parts<T> = (u64, u32, NonNull<T>);
+
+/// A create of the proved pool.
+#[inline(always)]
+fn create<T: Clear + Default, O: Stored<T>>(
+    pool: &shardpool::Pool<O>,
+    lane: &mut shardpool::Lane<O>,
+    brought: &mut Brought<T>,
+) -> Result<Parts<T>, CreateFault> {
+    let (key, start, _) = pool.create(lane)?.spend();
+    // SAFETY: the filling's place stands there, and the lane brought it.
+    let object = unsafe { O::begin(place_at(lane, start), brought) };
+    Ok((key, start, object))
+}
+
+/// Where an object of the lane's pool stands.
+///
+/// # Safety
+///
+/// The pool has a place that stands there.
+#[inline(always)]
+unsafe fn place_at<O: slotcell::Clear>(lane: &shardpool::Lane<O>, start: u32) -> NonNull<O> {
+    // SAFETY: the caller's.
+    unsafe { NonNull::new_unchecked(lane.state.objects.base().ptr.add(start as usize)) }
+}
+
+/// The proved filling of one that was taken apart.
+#[inline(always)]
+fn filling<T, O: Stored<T>>(
+    lane: &shardpool::Lane<O>,
+    (key, start, object): Parts<T>,
+) -> shardpool::Filling<O> {
+    // SAFETY: the filling's place stands there, and its begin gave the object.
+    unsafe { O::end(place_at(lane, start), object) };
+    let directory = lane.state.objects.base();
+    shardpool::Filling::of(&lane.hand, key, start, directory, cell(), Global)
+}
+
+/// A get of the proved pool: where the key's place stands, and where its object does. (By a pointer of which nobody looks whether it is null.)
+#[inline(always)]
+fn get<T, O: Stored<T>>(
+    pool: &shardpool::Pool<O>,
+    lane: &mut shardpool::Lane<O>,
+    key: u64,
+    emptier: &mut impl Emptier<O>,
+) -> Option<(u32, *mut T)> {
+    let proved = pool.get_with(lane, key, emptier)?;
+    // SAFETY: the lane has a reference to the key, so that is published.
+    let object = unsafe { lane.read(&proved).address() };
+    Some((proved.start, object.as_ptr()))
 }
 
 /// A lane that is had for calls: this thread alone uses it meanwhile.
@@ -61,28 +124,60 @@ pub(super) struct Turn<'s, T: Clear, P: Stands<'s, T> = Post<'s, T>> {
 }
 
 /// A create that may open a page: the memory for that is asked for between two tries, where the lane isn't had for calls.
-pub(super) fn with_page<T, R>(
-    mut block: Block<T>,
-    mut create: impl FnMut(Block<T>, &mut Option<Ready>) -> Result<R, Apart<T>>,
+pub(super) fn with_page<T: Clear, R>(
+    mut brought: Brought<T>,
+    mut create: impl FnMut(Brought<T>, &mut Option<Ready>) -> Result<R, Apart<T>>,
 ) -> Result<R, CreateError> {
     let mut ready = None;
     loop {
-        match create(block, &mut ready) {
+        match create(brought, &mut ready) {
             Ok(created) => return Ok(created),
             Err(Apart::Failed(error)) => return Err(error),
-            Err(Apart::Page(page, back)) => block = back_with(page, back, &mut ready)?,
+            Err(Apart::Page(page, back)) => brought = back_with(page, back, &mut ready)?,
         }
     }
 }
 
-/// Memory for a page of so many places is ready then. Where it is refused the block is dropped.
-fn back_with<T>(
+/// Memory for a page of so many places is ready then. Where it is refused, what was brought is dropped.
+fn back_with<T: Clear>(
     page: usize,
-    block: Block<T>,
+    brought: Brought<T>,
     ready: &mut Option<Ready>,
-) -> Result<Block<T>, CreateError> {
-    *ready = Some(Ready::new::<Object<T>>(page).ok_or(CreateError::Memory)?);
-    Ok(block)
+) -> Result<Brought<T>, CreateError> {
+    let made = if T::plain().0 {
+        Ready::new::<Placed<T>>(page)
+    } else {
+        Ready::new::<Hooked<T>>(page)
+    };
+    *ready = Some(made.ok_or(CreateError::Memory)?);
+    Ok(brought)
+}
+
+/// Whether memory is ready for a page of so many places.
+fn is_for<T: Clear>(ready: &Ready, page: usize) -> bool {
+    if T::plain().0 {
+        ready.is_for::<Placed<T>>(page)
+    } else {
+        ready.is_for::<Hooked<T>>(page)
+    }
+}
+
+/// How many places the next page of a lane has, where a create would open one.
+fn next_page<O: slotcell::Clear>(
+    pool: &shardpool::Pool<O>,
+    lane: &shardpool::Lane<O>,
+) -> Option<usize> {
+    let (shape, opened) = (lane.state.shape, lane.state.pages.opened());
+    // (Places that others returned are the lane's alone to take: what is there now is there at the create.)
+    let has_returned = || {
+        let mut others = (0..shape.lanes).filter(|from| *from != lane.number());
+        others.any(|from| {
+            let word = stack_word(&shape, lane.number(), from);
+            pool.grid.table.shared.peek(word) != 0
+        })
+    };
+    let opens = !lane.has_free() && opened < shape.pages && !(opened > 0 && has_returned());
+    opens.then(|| shape.page_size(opened) as usize)
 }
 
 /// Puts a new object into a block: the memory for it is asked for in front, if it is wanted, and between two tries, where the lane isn't had
@@ -100,6 +195,22 @@ pub(super) fn with_new<T: Default, R>(
         };
         (object, chunk) = (back, Some(Chunk::new(room)?));
     }
+}
+
+/// One call of the proved pool, by the lane of a turn: of the one with such objects as the type has.
+macro_rules! call {
+    ($type:ident, $turn:expr, |$pool:ident, $lane:ident| $call:expr) => {{
+        let (pool, lane, call) = $turn.proved();
+        let answer = if $type::plain().0 {
+            let ($pool, $lane) = (&pool.as_placed().pool, lane.as_placed_mut());
+            $call
+        } else {
+            let ($pool, $lane) = (&pool.as_hooked().pool, lane.as_hooked_mut());
+            $call
+        };
+        call.end();
+        answer
+    }};
 }
 
 /// Adds to a number that one thread alone writes.
@@ -156,11 +267,12 @@ impl<'s, T: Clear, P: Stands<'s, T>> Turn<'s, T, P> {
     ///
     /// # Safety
     ///
-    /// It is used within the one call of this turn that follows. (It turns to the lane's blocks alone, of which the call doesn't know.)
+    /// It is used within the one call of this turn that follows, which is for this key. (It turns to the lane's blocks alone, of which the
+    /// call doesn't know, and to a place that gets no object any more.)
     #[inline(always)]
-    unsafe fn emptier(&mut self) -> Emptying<'s, T, P> {
+    unsafe fn emptier(&mut self, key: Key) -> Emptying<'s, T> {
         // SAFETY: the turn isn't used otherwise within the call.
-        Emptying::by(unsafe { Turn::of(self.at) })
+        Emptying::of(unsafe { Turn::of(self.post()) }, key)
     }
 
     /// The lane.
@@ -181,7 +293,7 @@ impl<'s, T: Clear, P: Stands<'s, T>> Turn<'s, T, P> {
 
     #[inline(always)]
     pub(super) fn references(&mut self) -> u32 {
-        self.lane().refs()
+        of_either!(T, self.lane(), |lane| lane.refs())
     }
 
     /// How many fillings and references the lane has.
@@ -202,7 +314,7 @@ impl<'s, T: Clear, P: Stands<'s, T>> Turn<'s, T, P> {
 
     /// A block that was used before.
     #[inline(always)]
-    pub(super) fn spare(&mut self) -> Option<Block<T>> {
+    fn spare(&mut self) -> Option<Block<T>> {
         let post = self.post();
         let spare = &mut self.store().spare;
         match spare.pop() {
@@ -211,17 +323,22 @@ impl<'s, T: Clear, P: Stands<'s, T>> Turn<'s, T, P> {
         }
     }
 
-    /// The same; or a block with a new object, if there is room, and this crate's code and std's alone makes it.
-    #[inline]
-    pub(super) fn spare_or_new(&mut self) -> Option<Block<T>>
-    where
-        T: Default,
-    {
-        let spare = self.spare();
-        if spare.is_some() || !T::plain().0 {
-            return spare;
+    /// What a filling may begin with. None where a block is to be made.
+    #[inline(always)]
+    pub(super) fn bring(&mut self) -> Option<Brought<T>> {
+        if T::plain().0 {
+            let warm = self.store().warm.take();
+            return Some(warm.map_or(Brought::Nothing, Brought::Warm));
         }
-        self.put(T::default(), None).ok()
+        self.spare().map(Brought::Block)
+    }
+
+    /// What a create doesn't use.
+    #[inline]
+    pub(super) fn take_back(&mut self, brought: Brought<T>) {
+        if let Brought::Block(block) = brought {
+            self.put_away(block);
+        }
     }
 
     /// How much room a chunk is to have that is brought along with a new object.
@@ -254,122 +371,116 @@ impl<'s, T: Clear, P: Stands<'s, T>> Turn<'s, T, P> {
         !T::plain().0 && !self.store().taken.is_empty()
     }
 
-    /// A create of a lane with a place on its own list.
+    /// A create of a lane with a place at hand.
     #[inline(always)]
-    pub(super) fn create_short<W: By<T>>(
+    pub(super) fn create<W: By<T>>(
         &mut self,
-        block: Block<T>,
-    ) -> Result<Begun<'s, T, W>, Short<T>> {
-        self.create_where(block, |lane| lane.state.free.len() > 0)
-    }
-
-    /// A create of a lane with a place at hand: on its own list, or among those that it took back.
-    pub(super) fn create_at_hand<W: By<T>>(
-        &mut self,
-        block: Block<T>,
-    ) -> Result<Begun<'s, T, W>, Short<T>> {
-        self.create_where(block, |lane| lane.has_free())
-    }
-
-    #[inline(always)]
-    fn create_where<W: By<T>>(
-        &mut self,
-        block: Block<T>,
-        has_place: impl FnOnce(&ProvedLane<T>) -> bool,
-    ) -> Result<Begun<'s, T, W>, Short<T>> {
-        let (pool, lane, call) = self.proved();
-        if !has_place(lane) {
-            call.end();
-            return Err(Short::NoPlace(block));
+        mut brought: Brought<T>,
+        from: AtHand,
+    ) -> Result<Begun<'s, T, W>, Short<T>>
+    where
+        T: Default,
+    {
+        let created = call!(T, self, |pool, lane| {
+            let has_place = match from {
+                AtHand::Listed => lane.state.free.len() > 0,
+                AtHand::Any => lane.has_free(),
+            };
+            has_place.then(|| create(pool, lane, &mut brought))
+        });
+        match created {
+            None => Err(Short::NoPlace(brought.cooled())),
+            Some(created) => self.begin(created, brought).map_err(Short::Failed),
         }
-        let created = pool.create(lane);
-        call.end();
-        self.begin(created, block).map_err(Short::Failed)
     }
 
     /// A create of a lane without a place at hand, which may open a page, with the memory that is ready. How many it has opened
     /// is told then.
     pub(super) fn create_apart<W: By<T>>(
         &mut self,
-        block: Block<T>,
+        mut brought: Brought<T>,
         ready: &mut Option<Ready>,
-    ) -> Result<Begun<'s, T, W>, Apart<T>> {
-        let page = self.next_page();
+    ) -> Result<Begun<'s, T, W>, Apart<T>>
+    where
+        T: Default,
+    {
+        let page = call!(T, self, |pool, lane| next_page(pool, lane));
         let ready = match (page, ready) {
             (None, _) => None,
-            (Some(page), Some(ready)) if ready.is_for::<Object<T>>(page) => Some(ready),
-            (Some(page), _) => return Err(Apart::Page(page, block)),
+            (Some(page), Some(ready)) if is_for::<T>(ready, page) => Some(ready),
+            (Some(page), _) => return Err(Apart::Page(page, brought.cooled())),
         };
-        let (pool, lane, call) = self.proved();
-        let created = match ready {
-            Some(ready) => ready.within(|| pool.create(lane)),
-            None => pool.create(lane),
-        };
-        let opened = lane.state.pages.opened();
-        call.end();
+        let (created, opened) = call!(T, self, |pool, lane| {
+            let mut make = || create(pool, lane, &mut brought);
+            let created = match ready {
+                Some(ready) => ready.within(make),
+                None => make(),
+            };
+            (created, lane.state.pages.opened())
+        });
         self.post().seat().opened.store(opened, Ordering::Relaxed);
-        self.begin(created, block).map_err(Apart::Failed)
+        self.begin(created, brought).map_err(Apart::Failed)
     }
 
-    /// How many places the next page has, where a create would open one.
-    fn next_page(&mut self) -> Option<usize> {
-        let (pool, lane, call) = self.proved();
-        let (shape, opened) = (lane.state.shape, lane.state.pages.opened());
-        // (Places that others returned are the lane's alone to take: what is there now is there at the create.)
-        let has_returned = || {
-            let mut others = (0..shape.lanes).filter(|from| *from != lane.number());
-            others.any(|from| {
-                let word = stack_word(&shape, lane.number(), from);
-                pool.grid.table.shared.peek(word) != 0
-            })
-        };
-        let opens = !lane.has_free() && opened < shape.pages && !(opened > 0 && has_returned());
-        call.end();
-        opens.then(|| shape.page_size(opened) as usize)
-    }
-
-    /// What a create gave, with a block.
+    /// What a create gave. What was brought is put away where it isn't used.
     #[inline(always)]
     fn begin<W: By<T>>(
         &mut self,
-        created: Result<ProvedFilling<T>, CreateFault>,
-        block: Block<T>,
+        created: Result<Parts<T>, CreateFault>,
+        brought: Brought<T>,
     ) -> Result<Begun<'s, T, W>, CreateError> {
-        let mut proved = match created {
-            Ok(proved) => proved,
+        let (key, start, object) = match created {
+            Ok(parts) => parts,
             Err(fault) => {
-                self.put_away(block);
+                self.take_back(brought);
                 return Err(fault.into());
             }
         };
-        if let Some(left) = left(&mut proved) {
-            self.put_away(left);
-        }
-        let (key, start, _) = proved.spend();
         add(&self.post().seat().fillings, 1);
-        Ok(Begun::new(
-            self.post(),
-            (Key::proved(key), start),
-            block,
-            W::of(self.at.segment()),
-        ))
+        let place = (Key::proved(key), start);
+        let way = W::of(self.at.segment());
+        Ok(Begun::new(self.post(), place, object, way))
     }
 
-    /// The proved filling of one that was taken apart, which ends.
+    /// What a filling that ends is made of.
     #[inline(always)]
-    fn spend<W>(&mut self, begun: Begun<'_, T, W>) -> ProvedFilling<T> {
+    fn spend<W>(&mut self, begun: Begun<'_, T, W>) -> Parts<T> {
         add(&self.post().seat().fillings, u32::MAX);
-        let (key, start, block) = begun.into_proved();
-        let lane = self.lane();
-        let directory = lane.state.objects.base();
-        let mut proved = shardpool::Filling::of(&lane.hand, key, start, directory, cell(), Global);
-        proved.value_mut().hook(block);
-        proved
+        begun.into_proved()
     }
 
-    /// The place of a filling that isn't published is back for the close.
-    pub(super) fn leave(&mut self, start: u64) {
-        self.lane().state.objects.bring_back(start as usize, cell());
+    /// The object of a key's place that gets none any more stands there as it is until the close.
+    ///
+    /// # Safety
+    ///
+    /// The call under way reclaimed the place, whose generations are over.
+    #[cold]
+    pub(super) unsafe fn put_back(&mut self, key: Key, object: Placed<T>) {
+        let pool = &self.at.segment().proved().as_placed().pool;
+        if let Some(spot) = pool.find(key.into()) {
+            // SAFETY: the place is one of the pool's, and nobody else reaches its object before the close.
+            drop(unsafe {
+                pool.grid
+                    .objects
+                    .ptr
+                    .add(spot.start as usize)
+                    .replace(object)
+            });
+        }
+    }
+
+    /// The place of a filling is back for the close, and isn't published. The block comes back, where the object stands in one.
+    ///
+    /// # Safety
+    ///
+    /// It is of this lane.
+    pub(super) unsafe fn leave<W>(&mut self, begun: Begun<'_, T, W>) -> Option<Block<T>> {
+        let (_, start, object) = begun.into_proved();
+        of_either!(T, mut self.lane(), |lane| {
+            lane.state.objects.bring_back(start as usize, cell());
+        });
+        // SAFETY: the begin of the filling took it out of a block.
+        (!T::plain().0).then(|| unsafe { Block::of_object(object) })
     }
 
     /// Publishes a filling.
@@ -380,10 +491,11 @@ impl<'s, T: Clear, P: Stands<'s, T>> Turn<'s, T, P> {
     #[inline(always)]
     pub(super) unsafe fn publish<W>(&mut self, begun: Begun<'_, T, W>) -> Key {
         let key = begun.key();
-        let proved = self.spend(begun);
-        let (pool, lane, call) = self.proved();
-        pool.publish(lane, proved);
-        call.end();
+        let parts = self.spend(begun);
+        call!(T, self, |pool, lane| {
+            let proved = filling(lane, parts);
+            pool.publish(lane, proved);
+        });
         key
     }
 
@@ -401,11 +513,12 @@ impl<'s, T: Clear, P: Stands<'s, T>> Turn<'s, T, P> {
             return Err(begun);
         }
         let (post, key, object, way) = (begun.post(), begun.key(), begun.address(), begun.way);
-        let proved = self.spend(begun);
-        let (pool, lane, call) = self.proved();
-        let proved = pool.downgrade(lane, proved);
-        call.end();
-        Ok(Held::new(post, (key, proved.start), object, way))
+        let parts = self.spend(begun);
+        let start = call!(T, self, |pool, lane| {
+            let proved = filling(lane, parts);
+            pool.downgrade(lane, proved).start
+        });
+        Ok(Held::new(post, (key, start), object, way))
     }
 
     /// A get of this segment.
@@ -415,18 +528,19 @@ impl<'s, T: Clear, P: Stands<'s, T>> Turn<'s, T, P> {
             return Err(GetError::References);
         }
         // SAFETY: for the call below.
-        let mut emptier = unsafe { self.emptier() };
-        let (pool, lane, call) = self.proved();
-        let Some(proved) = pool.get_with(lane, u64::from(key), &mut emptier) else {
-            call.end();
-            return Ok(None);
-        };
-        // SAFETY: the lane has a reference to the key, so a publish of this file put the object there.
-        let object = unsafe { lane.read(&proved).address() };
-        call.end();
-        let place = (key, proved.start);
-        let way = W::of(self.at.segment());
-        Ok(Some(Held::new(self.post(), place, object, way)))
+        let mut emptier = unsafe { self.emptier(key) };
+        let got = call!(T, self, |pool, lane| get(
+            pool,
+            lane,
+            u64::from(key),
+            &mut emptier
+        ));
+        Ok(got.map(|(start, object)| {
+            // SAFETY: an object stands there.
+            let object = unsafe { NonNull::new_unchecked(object) };
+            let way = W::of(self.at.segment());
+            Held::new(self.post(), (key, start), object, way)
+        }))
     }
 
     /// Gives a reference back.
@@ -436,23 +550,22 @@ impl<'s, T: Clear, P: Stands<'s, T>> Turn<'s, T, P> {
     /// It is of this lane.
     #[inline(always)]
     pub(super) unsafe fn release<W>(&mut self, held: Held<'_, T, W>) {
-        let (key, start) = held.into_proved();
         // SAFETY: for the call below.
-        let mut emptier = unsafe { self.emptier() };
-        let (pool, lane, call) = self.proved();
-        let proved = ProvedRef::to(key, start, &lane.state.places);
-        pool.release_with(lane, proved, &mut emptier);
-        call.end();
+        let mut emptier = unsafe { self.emptier(held.key()) };
+        let (key, start) = held.into_proved();
+        call!(T, self, |pool, lane| {
+            let proved = Ref::to(key, start, &lane.state.places);
+            pool.release_with(lane, proved, &mut emptier);
+        });
     }
 
     /// A clear of this segment.
     #[inline(always)]
     pub(super) fn clear(&mut self, key: Key) -> bool {
         // SAFETY: for the call below.
-        let mut emptier = unsafe { self.emptier() };
-        let (pool, lane, call) = self.proved();
-        let cleared = pool.clear_with(lane, u64::from(key), &mut emptier);
-        call.end();
-        cleared
+        let mut emptier = unsafe { self.emptier(key) };
+        call!(T, self, |pool, lane| {
+            pool.clear_with(lane, u64::from(key), &mut emptier)
+        })
     }
 }

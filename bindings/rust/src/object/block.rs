@@ -100,6 +100,24 @@ impl<T> Block<T> {
         address(self.body)
     }
 
+    /// The object, of which the caller then takes care.
+    #[inline(always)]
+    pub(crate) fn into_object(self) -> NonNull<T> {
+        address(self.into_body())
+    }
+
+    /// # Safety
+    ///
+    /// A block's `into_object` gave it, and it goes into one block alone.
+    #[inline(always)]
+    pub(crate) unsafe fn of_object(object: NonNull<T>) -> Block<T> {
+        // SAFETY: the object stands in a body, so far behind its beginning.
+        unsafe {
+            let body = object.as_ptr().byte_sub(mem::offset_of!(Body<T>, object));
+            Block::from_body(NonNull::new_unchecked(body.cast()))
+        }
+    }
+
     /// The body, of which the caller then takes care.
     #[inline]
     fn into_body(self) -> NonNull<Body<T>> {

@@ -1,59 +1,117 @@
-//! Where objects stand: each in a block of its own, from its first use to the close. The pool's places have a pointer
-//! to a block, or none; so an object never moves, and whoever clears a place takes the block out with one word.
+//! Where objects stand. Those of plain types stand in the pool's places themselves. Each other one stands in a block of its own, from
+//! its first use to the close, and a place has a pointer to a block, or none: so who clears a place takes the block out with one word, and
+//! code of others empties it behind the call. No object moves.
 mod block;
+mod bytes;
 mod chunk;
 mod memory;
+mod placed;
 
 pub(crate) use block::{Block, Chain, Returned, FINDS_LOST};
+pub(crate) use bytes::Bytes;
 pub(crate) use chunk::{Chunk, Chunks, Crowded};
 pub(crate) use memory::{Counted, Fixed, Later};
+pub(crate) use placed::Placed;
 
+use crate::clear::Clear;
 use crate::erased::slotcell;
-use crate::shim::Global;
+use crate::shim::{impossible, Global};
+use crate::sync;
 use std::mem::{self, ManuallyDrop};
 use std::ptr::NonNull;
 
-/// What the proved pool takes for its object: a block, or none where the place is empty. No code of others runs in its
-/// calls.
-#[repr(transparent)]
-pub(crate) struct Object<T> {
-    block: ManuallyDrop<Option<Block<T>>>,
+/// What a filling may begin with.
+pub(crate) enum Brought<T> {
+    /// A block, whose object is empty: each of a type that isn't plain.
+    Block(Block<T>),
+    /// Of a plain type: the place of the lane's own that it emptied last.
+    Warm(NonNull<Placed<T>>),
+    Nothing,
 }
 
-impl<T> Object<T> {
-    /// Puts a block into an object that has none.
-    #[inline]
-    pub(crate) fn hook(&mut self, block: Block<T>) {
-        debug_assert!(self.block.is_none());
-        *self.block = Some(block);
+impl<T> Brought<T> {
+    /// The same, once others may have the lane.
+    pub(crate) fn cooled(self) -> Brought<T> {
+        match self {
+            Brought::Block(block) => Brought::Block(block),
+            Brought::Warm(_) | Brought::Nothing => Brought::Nothing,
+        }
     }
+}
 
-    /// Takes its block out.
-    #[inline]
-    pub(crate) fn unhook(&mut self) -> Option<Block<T>> {
-        self.block.take()
-    }
+/// What the proved pool takes for its object. No code of others runs in its calls.
+pub(crate) trait Stored<T>: slotcell::Clear + Sized {
+    /// The object of a filling that begins in the place that stands there: it is empty.
+    ///
+    /// # Safety
+    ///
+    /// The place is the filling's alone. Its lane brings a block of its own; or a place that rests with it, or is this one.
+    unsafe fn begin(at: NonNull<Self>, brought: &mut Brought<T>) -> NonNull<T>
+    where
+        T: Clear + Default;
+
+    /// The filling is published.
+    ///
+    /// # Safety
+    ///
+    /// The place is the filling's alone, and its begin gave the object.
+    unsafe fn end(at: NonNull<Self>, object: NonNull<T>);
 
     /// Where the object stands.
     ///
     /// # Safety
     ///
-    /// It has a block: its place is published, and a publish puts one there.
+    /// The place is published.
+    unsafe fn address(&self) -> NonNull<T>;
+}
+
+/// That of a type which isn't plain: a block, or none where the place is empty.
+#[repr(transparent)]
+pub(crate) struct Hooked<T> {
+    block: ManuallyDrop<Option<Block<T>>>,
+}
+
+impl<T> Hooked<T> {
+    /// Takes its block out.
+    #[inline]
+    pub(crate) fn unhook(&mut self) -> Option<Block<T>> {
+        self.block.take()
+    }
+}
+
+impl<T> Stored<T> for Hooked<T> {
     #[inline(always)]
-    pub(crate) unsafe fn address(&self) -> NonNull<T> {
+    unsafe fn begin(_: NonNull<Self>, brought: &mut Brought<T>) -> NonNull<T> {
+        match mem::replace(brought, Brought::Nothing) {
+            Brought::Block(block) => block.into_object(),
+            Brought::Warm(_) | Brought::Nothing => impossible!(),
+        }
+    }
+
+    #[inline(always)]
+    unsafe fn end(at: NonNull<Self>, object: NonNull<T>) {
+        sync::writes(at.as_ptr(), "place");
+        // SAFETY: the caller's; a begin took the object out of a block.
+        let (place, block) = unsafe { (&mut *at.as_ptr(), Block::of_object(object)) };
+        debug_assert!(place.block.is_none());
+        *place.block = Some(block);
+    }
+
+    #[inline(always)]
+    unsafe fn address(&self) -> NonNull<T> {
         debug_assert!(self.block.is_some());
-        // SAFETY: the caller's.
+        // SAFETY: an end put a block there, as the place is published.
         unsafe { self.block.as_ref().unwrap_unchecked() }.address()
     }
 }
 
-impl<T> slotcell::Clear for Object<T> {
+impl<T> slotcell::Clear for Hooked<T> {
     // (A pointer, and none is zeros.)
     const ZEROS: bool = true;
 
     #[inline]
-    fn fresh(_: Global) -> Object<T> {
-        Object {
+    fn fresh(_: Global) -> Hooked<T> {
+        Hooked {
             block: ManuallyDrop::new(None),
         }
     }
@@ -71,7 +129,7 @@ impl<T> slotcell::Clear for Object<T> {
 }
 
 /// The block is its chunk's. Where it is looked for, a close finds it here.
-impl<T> Drop for Object<T> {
+impl<T> Drop for Hooked<T> {
     #[inline(always)]
     fn drop(&mut self) {
         if FINDS_LOST {

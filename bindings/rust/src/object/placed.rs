@@ -1,0 +1,136 @@
+//! Objects of plain types, which stand in the pool's places themselves.
+use super::{Brought, Stored};
+use crate::clear::Clear;
+use crate::erased::slotcell;
+use crate::shim::Global;
+use crate::sync;
+use std::mem::{self, MaybeUninit};
+use std::ptr::{self, NonNull};
+
+/// What the proved pool takes for its object of a plain type: the object itself, or zeros in a place that never had one. It stays there as
+/// it is until the next filling of the place begins; or goes to the lane's next filling of any place, if it is the one that the lane emptied
+/// last, whose memory is warm.
+#[repr(transparent)]
+pub(crate) struct Placed<T> {
+    object: MaybeUninit<T>,
+}
+
+impl<T> Placed<T> {
+    /// Whether an object is there. (One of a plain type has a byte that isn't 0, and none between its fields.)
+    #[inline(always)]
+    fn is_there(&self) -> bool {
+        let count = mem::size_of::<T>() / mem::size_of::<usize>();
+        debug_assert_eq!(count * mem::size_of::<usize>(), mem::size_of::<T>());
+        let words = self.object.as_ptr().cast::<usize>();
+        // SAFETY: each byte of zeros is written, and each of an object of a plain type.
+        let word = |index| unsafe { words.add(index).read_unaligned() };
+        (0..count).fold(0, |all, index| all | word(index)) != 0
+    }
+
+    /// Has what another place had, which gets what this one has.
+    ///
+    /// # Safety
+    ///
+    /// The other is there, and nobody else reaches it meanwhile; or it is this one.
+    #[inline(always)]
+    unsafe fn change_with(&mut self, other: NonNull<Placed<T>>) {
+        if !ptr::eq(self, other.as_ptr()) {
+            sync::writes(other.as_ptr(), "place");
+            let object = MaybeUninit::uninit();
+            let mut mine = Placed { object };
+            // SAFETY: the caller's, and they are two. (By way of a third, so that the compiler moves long words.)
+            unsafe {
+                ptr::copy_nonoverlapping(self, &mut mine, 1);
+                ptr::copy_nonoverlapping(other.as_ptr(), self, 1);
+                other.as_ptr().write(mine);
+            }
+        }
+    }
+}
+
+impl<T> Stored<T> for Placed<T> {
+    #[inline(always)]
+    unsafe fn begin(at: NonNull<Self>, brought: &mut Brought<T>) -> NonNull<T>
+    where
+        T: Clear + Default,
+    {
+        sync::writes(at.as_ptr(), "place");
+        // SAFETY: the caller's.
+        let place = unsafe { &mut *at.as_ptr() };
+        if let Brought::Warm(warm) = *brought {
+            // SAFETY: the caller's.
+            unsafe { place.change_with(warm) };
+        } else if !place.is_there() {
+            place.object.write(T::default());
+        }
+        debug_assert!(place.is_there());
+        // SAFETY: an object is there, as one is in a place that was emptied.
+        unsafe { place.object.assume_init_mut() }.clear();
+        at.cast()
+    }
+
+    #[inline(always)]
+    unsafe fn end(_: NonNull<Self>, _: NonNull<T>) {}
+
+    #[inline(always)]
+    unsafe fn address(&self) -> NonNull<T> {
+        debug_assert!(self.is_there());
+        NonNull::from(self).cast()
+    }
+}
+
+impl<T> slotcell::Clear for Placed<T> {
+    const ZEROS: bool = true;
+
+    #[inline]
+    fn fresh(_: Global) -> Placed<T> {
+        Placed {
+            object: MaybeUninit::zeroed(),
+        }
+    }
+
+    // (No call comes here: who empties is an `Emptier`.)
+    #[inline]
+    fn clear(&mut self) {}
+
+    #[inline]
+    fn room(&self) -> usize {
+        0
+    }
+}
+
+impl<T> Drop for Placed<T> {
+    #[inline(always)]
+    fn drop(&mut self) {
+        if mem::needs_drop::<T>() && self.is_there() {
+            // SAFETY: an object is there, and goes with its place.
+            unsafe { self.object.assume_init_drop() };
+        }
+    }
+}
+
+#[cfg(test)]
+mod tests {
+    use super::*;
+    use crate::buffer::Buffer;
+    use std::collections::VecDeque;
+
+    /// An empty object of a plain type isn't zeros, as a place is that has none.
+    #[test]
+    fn an_object_is_told_from_none() {
+        fn told<T: Clear + Default>() {
+            assert!(T::plain().0);
+            let mut place = <Placed<T> as slotcell::Clear>::fresh(Global);
+            assert!(!place.is_there());
+            place.object.write(T::default());
+            assert!(place.is_there());
+        }
+        told::<Buffer>();
+        told::<String>();
+        told::<Vec<u8>>();
+        told::<Vec<()>>();
+        told::<Vec<[u64; 3]>>();
+        told::<VecDeque<u32>>();
+        told::<VecDeque<()>>();
+    }
+}
