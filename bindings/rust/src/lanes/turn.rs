@@ -529,18 +529,15 @@ impl<'s, T: Clear, P: Stands<'s, T>> Turn<'s, T, P> {
         }
         // SAFETY: for the call below.
         let mut emptier = unsafe { self.emptier(key) };
-        let got = call!(T, self, |pool, lane| get(
-            pool,
-            lane,
-            u64::from(key),
-            &mut emptier
-        ));
-        Ok(got.map(|(start, object)| {
-            // SAFETY: an object stands there.
-            let object = unsafe { NonNull::new_unchecked(object) };
-            let way = W::of(self.at.segment());
-            Held::new(self.post(), (key, start), object, way)
-        }))
+        let number = u64::from(key);
+        let got = call!(T, self, |pool, lane| get(pool, lane, number, &mut emptier));
+        let Some((start, object)) = got else {
+            return Ok(None);
+        };
+        // SAFETY: an object stands there.
+        let object = unsafe { NonNull::new_unchecked(object) };
+        let way = W::of(self.at.segment());
+        Ok(Some(Held::new(self.post(), (key, start), object, way)))
     }
 
     /// Gives a reference back.
