@@ -1,13 +1,18 @@
-//! The proved pool and its lanes, whose objects stand in their places or in blocks: which of the two, the objects' type tells.
+//! The proved pool and its lanes, whose objects stand in their places or in blocks: which of the two, the objects' type tells. And what is
+//! done alike with either.
 use super::turn::Call;
 use crate::clear::Clear;
 use crate::erased::keybits::Shape;
-use crate::erased::shardpool::{self, Census, Lane, OpenFault, Pool};
+use crate::erased::poolsteps::{stack_word, Whole};
+use crate::erased::shardpool::{
+    self, Census, CreateFault, Emptier, Filling, Lane, OpenFault, Pool,
+};
 use crate::erased::slotcell;
-use crate::object::{Hooked, Placed};
+use crate::object::{Brought, Hooked, Placed, Stored};
 use crate::shim::{self, Global, RowBlock};
 use std::marker::PhantomData;
-use std::mem::ManuallyDrop;
+use std::mem::{self, ManuallyDrop};
+use std::ptr::NonNull;
 
 pub(super) type ProvedPool<T> = Either<T, Opened<Placed<T>>, Opened<Hooked<T>>>;
 pub(super) type ProvedLane<T> = Either<T, Lane<Placed<T>>, Lane<Hooked<T>>>;
@@ -43,6 +48,90 @@ impl<O: slotcell::Clear> Opened<O> {
         call.end();
         census
     }
+}
+
+/// The cell of a filling's place, as the proved calls have it: it has no bytes.
+#[inline(always)]
+pub(super) fn cell<O>() -> Whole<O> {
+    const { assert!(mem::size_of::<Whole<O>>() == 0) };
+    // SAFETY: it has no bytes, and who calls this has the filling of the place.
+    unsafe { NonNull::<Whole<O>>::dangling().as_ptr().read() }
+}
+
+/// What a filling is made of: its key, where the key's place stands, and where its object does.
+pub(super) type Parts<T> = (u64, u32, NonNull<T>);
+
+/// A create of the proved pool.
+///
+/// # Safety
+///
+/// The lane brought it.
+#[inline(always)]
+pub(super) unsafe fn create<T: Clear + Default, O: Stored<T>>(
+    pool: &Pool<O>,
+    lane: &mut Lane<O>,
+    brought: &mut Brought<T>,
+) -> Result<Parts<T>, CreateFault> {
+    let (key, start, _) = pool.create(lane)?.spend();
+    // SAFETY: the filling's place stands there, and the rest is the caller's.
+    let object = unsafe { O::begin(place_at(lane, start), brought) };
+    Ok((key, start, object))
+}
+
+/// Where an object of the lane's pool stands.
+///
+/// # Safety
+///
+/// The pool has a place that stands there.
+#[inline(always)]
+unsafe fn place_at<O: slotcell::Clear>(lane: &Lane<O>, start: u32) -> NonNull<O> {
+    // SAFETY: the caller's.
+    unsafe { NonNull::new_unchecked(lane.state.objects.base().ptr.add(start as usize)) }
+}
+
+/// The proved filling of one that was taken apart.
+///
+/// # Safety
+///
+/// A create of this lane gave the parts, which are spent here.
+#[inline(always)]
+pub(super) unsafe fn filling<T, O: Stored<T>>(
+    lane: &Lane<O>,
+    (key, start, object): Parts<T>,
+) -> Filling<O> {
+    // SAFETY: the caller's.
+    unsafe { O::end(place_at(lane, start), object) };
+    let directory = lane.state.objects.base();
+    Filling::of(&lane.hand, key, start, directory, cell(), Global)
+}
+
+/// A get of the proved pool: where the key's place stands, and where its object does. (By a pointer of which nobody looks whether it is null.)
+#[inline(always)]
+pub(super) fn get<T, O: Stored<T>>(
+    pool: &Pool<O>,
+    lane: &mut Lane<O>,
+    key: u64,
+    emptier: &mut impl Emptier<O>,
+) -> Option<(u32, *mut T)> {
+    let proved = pool.get_with(lane, key, emptier)?;
+    // SAFETY: the lane has a reference to the key, so that is published.
+    let object = unsafe { lane.read(&proved).address() };
+    Some((proved.start, object.as_ptr()))
+}
+
+/// How many places the next page of a lane has, where a create would open one.
+pub(super) fn next_page<O: slotcell::Clear>(pool: &Pool<O>, lane: &Lane<O>) -> Option<usize> {
+    let (shape, opened) = (lane.state.shape, lane.state.pages.opened());
+    // (Places that others returned are the lane's alone to take: what is there now is there at the create.)
+    let has_returned = || {
+        let mut others = (0..shape.lanes).filter(|from| *from != lane.number());
+        others.any(|from| {
+            let word = stack_word(&shape, lane.number(), from);
+            pool.grid.table.shared.peek(word) != 0
+        })
+    };
+    let opens = !lane.has_free() && opened < shape.pages && !(opened > 0 && has_returned());
+    opens.then(|| shape.page_size(opened) as usize)
 }
 
 /// What is `P` for a plain type, and else `B`. It is never dropped.

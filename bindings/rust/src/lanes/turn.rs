@@ -1,16 +1,14 @@
 //! The calls of the proved pool. None runs code of others: what that is to empty comes back as a block.
 use super::emptying::Emptying;
-use super::proved::{of_either, ProvedLane, ProvedPool};
+use super::proved::{self, cell, of_either, Parts, ProvedLane, ProvedPool};
 use super::seat::{Post, Stands, Store};
 use super::token::{Begun, By, Held};
 use crate::clear::Clear;
-use crate::erased::poolsteps::{stack_word, Whole};
-use crate::erased::shardpool::{self, CreateFault, Emptier, Ref, MOST_REFERENCES};
-use crate::erased::slotcell;
+use crate::erased::shardpool::{CreateFault, Ref, MOST_REFERENCES};
 use crate::errors::{CreateError, GetError, MemoryRefused};
 use crate::key::Key;
-use crate::object::{Block, Brought, Chain, Chunk, Crowded, Hooked, Placed, Stored};
-use crate::shim::{Global, Ready};
+use crate::object::{Block, Brought, Chain, Chunk, Crowded, Hooked, Placed};
+use crate::shim::Ready;
 use crate::sync::{self, AtomicU32, Ordering};
 use std::marker::PhantomData;
 use std::mem;
@@ -31,14 +29,6 @@ impl Drop for Call {
     fn drop(&mut self) {
         process::abort();
     }
-}
-
-/// The cell of a filling's place, as the proved calls have it: it has no bytes.
-#[inline(always)]
-fn cell<O>() -> Whole<O> {
-    const { assert!(mem::size_of::<Whole<O>>() == 0) };
-    // SAFETY: it has no bytes, and who calls this has the filling of the place.
-    unsafe { NonNull::<Whole<O>>::dangling().as_ptr().read() }
 }
 
 /// Which places a create may take.
@@ -62,59 +52,6 @@ pub(super) enum Apart<T> {
     /// Its next page has so many places, for which no memory is ready: what was brought comes back.
     Page(usize, Brought<T>),
     Failed(CreateError),
-}
-
-/// What a filling is made of: its key, where the key's place stands, and where its object does.
-type Parts<T> = (u64, u32, NonNull<T>);
-
-/// A create of the proved pool.
-#[inline(always)]
-fn create<T: Clear + Default, O: Stored<T>>(
-    pool: &shardpool::Pool<O>,
-    lane: &mut shardpool::Lane<O>,
-    brought: &mut Brought<T>,
-) -> Result<Parts<T>, CreateFault> {
-    let (key, start, _) = pool.create(lane)?.spend();
-    // SAFETY: the filling's place stands there, and the lane brought it.
-    let object = unsafe { O::begin(place_at(lane, start), brought) };
-    Ok((key, start, object))
-}
-
-/// Where an object of the lane's pool stands.
-///
-/// # Safety
-///
-/// The pool has a place that stands there.
-#[inline(always)]
-unsafe fn place_at<O: slotcell::Clear>(lane: &shardpool::Lane<O>, start: u32) -> NonNull<O> {
-    // SAFETY: the caller's.
-    unsafe { NonNull::new_unchecked(lane.state.objects.base().ptr.add(start as usize)) }
-}
-
-/// The proved filling of one that was taken apart.
-#[inline(always)]
-fn filling<T, O: Stored<T>>(
-    lane: &shardpool::Lane<O>,
-    (key, start, object): Parts<T>,
-) -> shardpool::Filling<O> {
-    // SAFETY: the filling's place stands there, and its begin gave the object.
-    unsafe { O::end(place_at(lane, start), object) };
-    let directory = lane.state.objects.base();
-    shardpool::Filling::of(&lane.hand, key, start, directory, cell(), Global)
-}
-
-/// A get of the proved pool: where the key's place stands, and where its object does. (By a pointer of which nobody looks whether it is null.)
-#[inline(always)]
-fn get<T, O: Stored<T>>(
-    pool: &shardpool::Pool<O>,
-    lane: &mut shardpool::Lane<O>,
-    key: u64,
-    emptier: &mut impl Emptier<O>,
-) -> Option<(u32, *mut T)> {
-    let proved = pool.get_with(lane, key, emptier)?;
-    // SAFETY: the lane has a reference to the key, so that is published.
-    let object = unsafe { lane.read(&proved).address() };
-    Some((proved.start, object.as_ptr()))
 }
 
 /// A lane that is had for calls: this thread alone uses it meanwhile.
@@ -160,24 +97,6 @@ fn is_for<T: Clear>(ready: &Ready, page: usize) -> bool {
     } else {
         ready.is_for::<Hooked<T>>(page)
     }
-}
-
-/// How many places the next page of a lane has, where a create would open one.
-fn next_page<O: slotcell::Clear>(
-    pool: &shardpool::Pool<O>,
-    lane: &shardpool::Lane<O>,
-) -> Option<usize> {
-    let (shape, opened) = (lane.state.shape, lane.state.pages.opened());
-    // (Places that others returned are the lane's alone to take: what is there now is there at the create.)
-    let has_returned = || {
-        let mut others = (0..shape.lanes).filter(|from| *from != lane.number());
-        others.any(|from| {
-            let word = stack_word(&shape, lane.number(), from);
-            pool.grid.table.shared.peek(word) != 0
-        })
-    };
-    let opens = !lane.has_free() && opened < shape.pages && !(opened > 0 && has_returned());
-    opens.then(|| shape.page_size(opened) as usize)
 }
 
 /// Puts a new object into a block: the memory for it is asked for in front, if it is wanted, and between two tries, where the lane isn't had
@@ -386,7 +305,8 @@ impl<'s, T: Clear, P: Stands<'s, T>> Turn<'s, T, P> {
                 AtHand::Listed => lane.state.free.len() > 0,
                 AtHand::Any => lane.has_free(),
             };
-            has_place.then(|| create(pool, lane, &mut brought))
+            // SAFETY: the lane brought it.
+            has_place.then(|| unsafe { proved::create(pool, lane, &mut brought) })
         });
         match created {
             None => Err(Short::NoPlace(brought.cooled())),
@@ -404,14 +324,15 @@ impl<'s, T: Clear, P: Stands<'s, T>> Turn<'s, T, P> {
     where
         T: Default,
     {
-        let page = call!(T, self, |pool, lane| next_page(pool, lane));
+        let page = call!(T, self, |pool, lane| proved::next_page(pool, lane));
         let ready = match (page, ready) {
             (None, _) => None,
             (Some(page), Some(ready)) if is_for::<T>(ready, page) => Some(ready),
             (Some(page), _) => return Err(Apart::Page(page, brought.cooled())),
         };
         let (created, opened) = call!(T, self, |pool, lane| {
-            let mut make = || create(pool, lane, &mut brought);
+            // SAFETY: the lane brought it.
+            let mut make = || unsafe { proved::create(pool, lane, &mut brought) };
             let created = match ready {
                 Some(ready) => ready.within(make),
                 None => make(),
@@ -493,7 +414,8 @@ impl<'s, T: Clear, P: Stands<'s, T>> Turn<'s, T, P> {
         let key = begun.key();
         let parts = self.spend(begun);
         call!(T, self, |pool, lane| {
-            let proved = filling(lane, parts);
+            // SAFETY: the caller's.
+            let proved = unsafe { proved::filling(lane, parts) };
             pool.publish(lane, proved);
         });
         key
@@ -515,7 +437,8 @@ impl<'s, T: Clear, P: Stands<'s, T>> Turn<'s, T, P> {
         let (post, key, object, way) = (begun.post(), begun.key(), begun.address(), begun.way);
         let parts = self.spend(begun);
         let start = call!(T, self, |pool, lane| {
-            let proved = filling(lane, parts);
+            // SAFETY: the caller's.
+            let proved = unsafe { proved::filling(lane, parts) };
             pool.downgrade(lane, proved).start
         });
         Ok(Held::new(post, (key, start), object, way))
@@ -530,7 +453,12 @@ impl<'s, T: Clear, P: Stands<'s, T>> Turn<'s, T, P> {
         // SAFETY: for the call below.
         let mut emptier = unsafe { self.emptier(key) };
         let number = u64::from(key);
-        let got = call!(T, self, |pool, lane| get(pool, lane, number, &mut emptier));
+        let got = call!(T, self, |pool, lane| proved::get(
+            pool,
+            lane,
+            number,
+            &mut emptier
+        ));
         let Some((start, object)) = got else {
             return Ok(None);
         };
