@@ -47,7 +47,9 @@ pub trait Clear {
 }
 
 /// Whether a type's `clear` and its `default` run no code but this crate's and the standard library's: they neither panic nor call a pool,
-/// nor ask for or free memory. So nobody looks for that, and they may run under a lane's lock. (A type of this crate alone can say so.)
+/// nor ask for or free memory. So nobody looks for that, and they may run under a lane's lock. Nor does its drop panic; and an object has a
+/// byte that isn't 0, and none between its fields, so that it is told from zeros: it stands in its place itself. (A type of this crate alone
+/// can say so.)
 #[doc(hidden)]
 #[derive(Clone, Copy)]
 pub struct Plain(pub(crate) bool);
