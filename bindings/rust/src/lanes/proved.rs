@@ -51,10 +51,14 @@ impl<O: slotcell::Clear> Opened<O> {
 }
 
 /// The cell of a filling's place, as the proved calls have it: it has no bytes.
+///
+/// # Safety
+///
+/// The caller has the filling of the place, which is spent.
 #[inline(always)]
-pub(super) fn cell<O>() -> Whole<O> {
+pub(super) unsafe fn cell<O>() -> Whole<O> {
     const { assert!(mem::size_of::<Whole<O>>() == 0) };
-    // SAFETY: it has no bytes, and who calls this has the filling of the place.
+    // SAFETY: it has no bytes, and the rest is the caller's.
     unsafe { NonNull::<Whole<O>>::dangling().as_ptr().read() }
 }
 
@@ -102,7 +106,9 @@ pub(super) unsafe fn filling<T, O: Stored<T>>(
     // SAFETY: the caller's.
     unsafe { O::end(place_at(lane, start), object) };
     let directory = lane.state.objects.base();
-    Filling::of(&lane.hand, key, start, directory, cell(), Global)
+    // SAFETY: the caller's.
+    let cell = unsafe { cell() };
+    Filling::of(&lane.hand, key, start, directory, cell, Global)
 }
 
 /// A get of the proved pool: where the key's place stands, and where its object does. (By a pointer of which nobody looks whether it is null.)

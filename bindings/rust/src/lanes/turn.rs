@@ -398,7 +398,9 @@ impl<'s, T: Clear, P: Stands<'s, T>> Turn<'s, T, P> {
     pub(super) unsafe fn leave<W>(&mut self, begun: Begun<'_, T, W>) -> Option<Block<T>> {
         let (_, start, object) = begun.into_proved();
         of_either!(T, mut self.lane(), |lane| {
-            lane.state.objects.bring_back(start as usize, cell());
+            // SAFETY: the filling is spent.
+            let cell = unsafe { cell() };
+            lane.state.objects.bring_back(start as usize, cell);
         });
         // SAFETY: the begin of the filling took it out of a block.
         (!T::plain().0).then(|| unsafe { Block::of_object(object) })
