@@ -31,7 +31,7 @@ impl Pooled for Buffer {
     }
 }
 
-/// A vector, which the library clears by its own.
+/// A vector, for which the library has a `Clear` of its own.
 impl Pooled for Vec<u8> {
     #[inline]
     fn fill(&mut self) {

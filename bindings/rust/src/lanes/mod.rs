@@ -10,7 +10,8 @@
 //! | `publish`, `downgrade` | that the lane made the filling, and hasn't published it (`Made`) | a [`Begun`](token::Begun), which has the lane's seat, and is spent by the call |
 //! | `release`, `read` | that the lane has a reference to the key | a [`Held`](token::Held), likewise |
 //! | `close` | all lanes of the pool, each once | `Segment::end` takes the seats as `open` gave them; that the pool is ours alone then is told by `&mut`, for a lane in hand borrows it, or has a share of it, and by `Room::shares`, for a lane of owned handles has a share of its memory |
-//! | the emptier of objects | that it empties, keeps the room, takes no memory and ends | [`Emptying`](emptying::Emptying), which takes a block out; or leaves a plain object as it is, which is emptied as the next filling of its place begins ([`Placed`](crate::object::Placed)), in front of all that reads it |
+//! | the emptier of objects | that it empties, keeps the room, takes no memory and ends | [`Emptying`](emptying::Emptying), which takes a block out; or leaves a plain object as it is, which is emptied as a filling begins with it ([`Placed`](crate::object::Placed)), in front of all that reads it |
+//! | (a place at rest) | that nobody writes its object | the one that a lane's create swaps is of the lane's own list: the last that the lane emptied, with no create since ([`Store`](seat::Store)) |
 //! | all of a pool, of a lane | the one or the other, as its objects stand | [`Either`](proved::Either), which asks their type each time |
 //! | (a block of a lane) | that its chunk is there for as long as the block is anywhere (`Block::begin`) | no block leaves its segment, whose chunks go at its close; what a call gave borrows the pool or has a share of its room, so that the close comes behind |
 //!

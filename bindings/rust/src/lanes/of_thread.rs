@@ -7,11 +7,11 @@ use super::seat::{Near, Post};
 use super::segment::Segment;
 use super::threads;
 use super::token::{Begun, Held, OfThread, Spend, Spent};
+use super::turn::Brought;
 use super::who::Caller;
 use crate::clear::Clear;
 use crate::errors::{CreateError, GetError};
 use crate::key::Key;
-use crate::object::Brought;
 use std::ptr::{self, NonNull};
 
 /// Which way a thread calls for what a call of the pool gave it.

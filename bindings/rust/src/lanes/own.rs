@@ -3,11 +3,11 @@ use super::room::Room;
 use super::seat::{Near, Post, Stands};
 use super::segment::Segment;
 use super::token::{Begun, By, Held};
-use super::turn::{with_new, with_page, AtHand, Short, Turn};
+use super::turn::{with_new, with_page, AtHand, Brought, Short, Turn};
 use crate::clear::Clear;
 use crate::errors::{CreateError, GetError};
 use crate::key::Key;
-use crate::object::{Block, Brought};
+use crate::object::Block;
 use std::marker::PhantomData;
 use std::mem;
 use std::panic::{self, AssertUnwindSafe};
@@ -192,7 +192,7 @@ impl<'s, T: Clear, P: Stands<'s, T>> Own<'s, T, P> {
         }
     }
 
-    /// What a filling begins with.
+    /// What a create brings.
     #[inline(always)]
     fn bring(self) -> Result<Brought<T>, CreateError>
     where
@@ -201,7 +201,7 @@ impl<'s, T: Clear, P: Stands<'s, T>> Own<'s, T, P> {
         match self.turn().bring() {
             Some(brought) => Ok(brought),
             // SAFETY: the thread has the lane alone.
-            None => unsafe { make(self.post()) }.map(Brought::Block),
+            None => unsafe { make(self.post()) }.map(Some),
         }
     }
 

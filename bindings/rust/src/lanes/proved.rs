@@ -8,8 +8,8 @@ use crate::erased::shardpool::{
     self, Census, CreateFault, Emptier, Filling, Lane, OpenFault, Pool,
 };
 use crate::erased::slotcell;
-use crate::object::{Brought, Hooked, Placed, Stored};
-use crate::shim::{self, Global, RowBlock};
+use crate::object::{Hooked, Placed, Source, Stored};
+use crate::shim::{self, Global, Ready, RowBlock};
 use std::marker::PhantomData;
 use std::mem::{self, ManuallyDrop};
 use std::ptr::NonNull;
@@ -69,16 +69,16 @@ pub(super) type Parts<T> = (u64, u32, NonNull<T>);
 ///
 /// # Safety
 ///
-/// The lane brought it.
+/// The source is the lane's.
 #[inline(always)]
 pub(super) unsafe fn create<T: Clear + Default, O: Stored<T>>(
     pool: &Pool<O>,
     lane: &mut Lane<O>,
-    brought: &mut Brought<T>,
+    source: &mut Source<T>,
 ) -> Result<Parts<T>, CreateFault> {
     let (key, start, _) = pool.create(lane)?.spend();
     // SAFETY: the filling's place stands there, and the rest is the caller's.
-    let object = unsafe { O::begin(place_at(lane, start), brought) };
+    let object = unsafe { O::begin(place_at(lane, start), source) };
     Ok((key, start, object))
 }
 
@@ -138,6 +138,24 @@ pub(super) fn next_page<O: slotcell::Clear>(pool: &Pool<O>, lane: &Lane<O>) -> O
     };
     let opens = !lane.has_free() && opened < shape.pages && !(opened > 0 && has_returned());
     opens.then(|| shape.page_size(opened) as usize)
+}
+
+/// Memory for a page of so many places. None where it was refused.
+pub(super) fn ready_for<T: Clear>(page: usize) -> Option<Ready> {
+    if T::plain().0 {
+        Ready::new::<Placed<T>>(page)
+    } else {
+        Ready::new::<Hooked<T>>(page)
+    }
+}
+
+/// Whether this memory is for a page of so many places.
+pub(super) fn is_for<T: Clear>(ready: &Ready, page: usize) -> bool {
+    if T::plain().0 {
+        ready.is_for::<Placed<T>>(page)
+    } else {
+        ready.is_for::<Hooked<T>>(page)
+    }
 }
 
 /// What is `P` for a plain type, and else `B`. It is never dropped.

@@ -3,11 +3,11 @@
 use super::seat::{Joint, Post};
 use super::segment::Segment;
 use super::token::{Begun, By, Far, Held, OfThread};
-use super::turn::{with_new, with_page, AtHand, Short, Turn};
+use super::turn::{with_new, with_page, AtHand, Brought, Short, Turn};
 use crate::clear::Clear;
 use crate::errors::{CreateError, GetError};
 use crate::key::Key;
-use crate::object::{Block, Brought, Chain};
+use crate::object::{Block, Chain};
 use crate::sync::thread_local;
 use std::any::Any;
 use std::cell::{Cell, RefCell};
@@ -64,13 +64,13 @@ impl<'s, T: Clear> Post<'s, T> {
     #[inline]
     pub(super) fn shared_create<W: By<T>>(
         self,
-        carried: Option<Block<T>>,
+        carried: Brought<T>,
         come: impl Fn(&mut Joint),
     ) -> Result<Result<Begun<'s, T, W>, CreateError>, NotShared>
     where
         T: Default,
     {
-        let carried = carried.map(Brought::Block);
+        let carried = carried.map(Some);
         let begun = self.shared(|turn, joint| match carried.or_else(|| turn.bring()) {
             Some(brought) => Ok(create_short(turn, joint, brought, &come)),
             None => Err(turn.wants()),
@@ -114,7 +114,7 @@ impl<'s, T: Clear> Post<'s, T> {
         let begun = with_new(wanted, |object, chunk| {
             let begun = self.shared(|turn, joint| {
                 let block = turn.put(object, chunk)?;
-                Ok(create_short(turn, joint, Brought::Block(block), &come))
+                Ok(create_short(turn, joint, Some(block), &come))
             });
             match begun {
                 Some(Ok(begun)) => Ok(Ok(begun)),

@@ -10,16 +10,17 @@ pub(super) const SHARED: u32 = 4;
 const NARROW: usize = 16;
 
 /// Behind so many segments, lanes that nobody has are lent to all before a further one is opened.
-const FOR_ALL: usize = 5;
+const LENT_BEHIND: usize = 5;
 
 /// Where many threads have lanes, those of which one is full have a further segment opened at once, up to so many.
-const FOR_MANY: usize = 9;
+const MANY_UP_TO: usize = 9;
 
 /// A segment that is opened for the sake of its lanes is as large as the one behind so many, and no larger.
 pub(super) const FOR_LANES: usize = 3;
 
-/// The shape of a segment, counted from the first, but for its tag: that is small, and each is larger than the one before, up to the
-/// fifth, and then as large; and later ones are the widest. (To open and close one takes time for each of its places, and memory.)
+/// The shape of a segment, counted from the first, but for its tag. The first is small, and each further one up to the fifth is larger; those
+/// up to the sixteenth are as large as the fifth, and later ones are the widest. (To open and close one takes time and memory for each of
+/// its places.)
 pub(super) fn shape_of(index: usize, lanes: u32, growth: Growth) -> Shape {
     let (first_page, pages) = match index {
         0 => (LARGEST_FIRST_PAGE / 2, 1),
@@ -57,13 +58,13 @@ fn places_of(shape: Shape) -> u32 {
 }
 
 /// Whether lanes that nobody has are lent before a segment behind so many is opened.
-pub(super) fn is_for_all(count: usize) -> bool {
-    count >= FOR_ALL
+pub(super) fn lends_behind(count: usize) -> bool {
+    count >= LENT_BEHIND
 }
 
 /// Whether a segment behind so many is opened where many threads have lanes, of which one is full.
-pub(super) fn is_for_many(count: usize) -> bool {
-    count < FOR_MANY
+pub(super) fn opens_for_many(count: usize) -> bool {
+    count < MANY_UP_TO
 }
 
 #[cfg(test)]

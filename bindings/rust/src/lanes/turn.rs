@@ -7,7 +7,7 @@ use crate::clear::Clear;
 use crate::erased::shardpool::{CreateFault, Ref, MOST_REFERENCES};
 use crate::errors::{CreateError, GetError, MemoryRefused};
 use crate::key::Key;
-use crate::object::{Block, Brought, Chain, Chunk, Crowded, Hooked, Placed};
+use crate::object::{Block, Chain, Chunk, Crowded, Placed, Source};
 use crate::shim::Ready;
 use crate::sync::{self, AtomicU32, Ordering};
 use std::marker::PhantomData;
@@ -30,6 +30,9 @@ impl Drop for Call {
         process::abort();
     }
 }
+
+/// A block for a filling, with an empty object. Those of a plain type have none.
+pub(super) type Brought<T> = Option<Block<T>>;
 
 /// Which places a create may take.
 #[derive(Clone, Copy)]
@@ -81,22 +84,8 @@ fn back_with<T: Clear>(
     brought: Brought<T>,
     ready: &mut Option<Ready>,
 ) -> Result<Brought<T>, CreateError> {
-    let made = if T::plain().0 {
-        Ready::new::<Placed<T>>(page)
-    } else {
-        Ready::new::<Hooked<T>>(page)
-    };
-    *ready = Some(made.ok_or(CreateError::Memory)?);
+    *ready = Some(proved::ready_for::<T>(page).ok_or(CreateError::Memory)?);
     Ok(brought)
-}
-
-/// Whether memory is ready for a page of so many places.
-fn is_for<T: Clear>(ready: &Ready, page: usize) -> bool {
-    if T::plain().0 {
-        ready.is_for::<Placed<T>>(page)
-    } else {
-        ready.is_for::<Hooked<T>>(page)
-    }
 }
 
 /// Puts a new object into a block: the memory for it is asked for in front, if it is wanted, and between two tries, where the lane isn't had
@@ -242,22 +231,31 @@ impl<'s, T: Clear, P: Stands<'s, T>> Turn<'s, T, P> {
         }
     }
 
-    /// What a filling may begin with. None where a block is to be made.
+    /// What a create is to bring. None where a block is to be made.
     #[inline(always)]
     pub(super) fn bring(&mut self) -> Option<Brought<T>> {
         if T::plain().0 {
-            let warm = self.store().warm.take();
-            return Some(warm.map_or(Brought::Nothing, Brought::Warm));
+            return Some(None);
         }
-        self.spare().map(Brought::Block)
+        self.spare().map(Some)
     }
 
     /// What a create doesn't use.
     #[inline]
     pub(super) fn take_back(&mut self, brought: Brought<T>) {
-        if let Brought::Block(block) = brought {
+        if let Some(block) = brought {
             self.put_away(block);
         }
+    }
+
+    /// What a filling begins with that begins now.
+    #[inline(always)]
+    fn source(&mut self, brought: Brought<T>) -> Source<T> {
+        if let Some(block) = brought {
+            return Source::Block(block);
+        }
+        let warm = self.store().warm.take();
+        warm.map_or(Source::Own, Source::Warm)
     }
 
     /// How much room a chunk is to have that is brought along with a new object.
@@ -294,23 +292,24 @@ impl<'s, T: Clear, P: Stands<'s, T>> Turn<'s, T, P> {
     #[inline(always)]
     pub(super) fn create<W: By<T>>(
         &mut self,
-        mut brought: Brought<T>,
+        brought: Brought<T>,
         from: AtHand,
     ) -> Result<Begun<'s, T, W>, Short<T>>
     where
         T: Default,
     {
+        let mut source = self.source(brought);
         let created = call!(T, self, |pool, lane| {
             let has_place = match from {
                 AtHand::Listed => lane.state.free.len() > 0,
                 AtHand::Any => lane.has_free(),
             };
-            // SAFETY: the lane brought it.
-            has_place.then(|| unsafe { proved::create(pool, lane, &mut brought) })
+            // SAFETY: the source is this lane's.
+            has_place.then(|| unsafe { proved::create(pool, lane, &mut source) })
         });
         match created {
-            None => Err(Short::NoPlace(brought.cooled())),
-            Some(created) => self.begin(created, brought).map_err(Short::Failed),
+            None => Err(Short::NoPlace(source.into_block())),
+            Some(created) => self.begin(created, source).map_err(Short::Failed),
         }
     }
 
@@ -318,7 +317,7 @@ impl<'s, T: Clear, P: Stands<'s, T>> Turn<'s, T, P> {
     /// is told then.
     pub(super) fn create_apart<W: By<T>>(
         &mut self,
-        mut brought: Brought<T>,
+        brought: Brought<T>,
         ready: &mut Option<Ready>,
     ) -> Result<Begun<'s, T, W>, Apart<T>>
     where
@@ -327,12 +326,13 @@ impl<'s, T: Clear, P: Stands<'s, T>> Turn<'s, T, P> {
         let page = call!(T, self, |pool, lane| proved::next_page(pool, lane));
         let ready = match (page, ready) {
             (None, _) => None,
-            (Some(page), Some(ready)) if is_for::<T>(ready, page) => Some(ready),
-            (Some(page), _) => return Err(Apart::Page(page, brought.cooled())),
+            (Some(page), Some(ready)) if proved::is_for::<T>(ready, page) => Some(ready),
+            (Some(page), _) => return Err(Apart::Page(page, brought)),
         };
+        let mut source = self.source(brought);
         let (created, opened) = call!(T, self, |pool, lane| {
-            // SAFETY: the lane brought it.
-            let mut make = || unsafe { proved::create(pool, lane, &mut brought) };
+            // SAFETY: the source is this lane's.
+            let mut make = || unsafe { proved::create(pool, lane, &mut source) };
             let created = match ready {
                 Some(ready) => ready.within(make),
                 None => make(),
@@ -340,20 +340,20 @@ impl<'s, T: Clear, P: Stands<'s, T>> Turn<'s, T, P> {
             (created, lane.state.pages.opened())
         });
         self.post().seat().opened.store(opened, Ordering::Relaxed);
-        self.begin(created, brought).map_err(Apart::Failed)
+        self.begin(created, source).map_err(Apart::Failed)
     }
 
-    /// What a create gave. What was brought is put away where it isn't used.
+    /// What a create gave. A block that wasn't used is put away.
     #[inline(always)]
     fn begin<W: By<T>>(
         &mut self,
         created: Result<Parts<T>, CreateFault>,
-        brought: Brought<T>,
+        source: Source<T>,
     ) -> Result<Begun<'s, T, W>, CreateError> {
         let (key, start, object) = match created {
             Ok(parts) => parts,
             Err(fault) => {
-                self.take_back(brought);
+                self.take_back(source.into_block());
                 return Err(fault.into());
             }
         };

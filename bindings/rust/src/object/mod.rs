@@ -20,21 +20,23 @@ use crate::sync;
 use std::mem::{self, ManuallyDrop};
 use std::ptr::NonNull;
 
-/// What a filling may begin with.
-pub(crate) enum Brought<T> {
+/// What a filling begins with.
+pub(crate) enum Source<T> {
     /// A block, whose object is empty: each of a type that isn't plain.
     Block(Block<T>),
-    /// Of a plain type: the place of the lane's own that it emptied last.
+    /// Of a plain type: the object of another place, which the lane emptied last.
     Warm(NonNull<Placed<T>>),
-    Nothing,
+    /// Of a plain type: the place's own object, or a new one.
+    Own,
 }
 
-impl<T> Brought<T> {
-    /// The same, once others may have the lane.
-    pub(crate) fn cooled(self) -> Brought<T> {
+impl<T> Source<T> {
+    /// The block, where it wasn't used.
+    #[inline(always)]
+    pub(crate) fn into_block(self) -> Option<Block<T>> {
         match self {
-            Brought::Block(block) => Brought::Block(block),
-            Brought::Warm(_) | Brought::Nothing => Brought::Nothing,
+            Source::Block(block) => Some(block),
+            Source::Warm(_) | Source::Own => None,
         }
     }
 }
@@ -45,8 +47,8 @@ pub(crate) trait Stored<T>: slotcell::Clear + Sized {
     ///
     /// # Safety
     ///
-    /// The place is the filling's alone. Its lane brings a block of its own; or a place that rests with it, or is this one.
-    unsafe fn begin(at: NonNull<Self>, brought: &mut Brought<T>) -> NonNull<T>
+    /// The place is the filling's alone. The source is a block; or a place that rests with the filling's lane, or is this one.
+    unsafe fn begin(at: NonNull<Self>, source: &mut Source<T>) -> NonNull<T>
     where
         T: Clear + Default;
 
@@ -81,10 +83,10 @@ impl<T> Hooked<T> {
 
 impl<T> Stored<T> for Hooked<T> {
     #[inline(always)]
-    unsafe fn begin(_: NonNull<Self>, brought: &mut Brought<T>) -> NonNull<T> {
-        match mem::replace(brought, Brought::Nothing) {
-            Brought::Block(block) => block.into_object(),
-            Brought::Warm(_) | Brought::Nothing => impossible!(),
+    unsafe fn begin(_: NonNull<Self>, source: &mut Source<T>) -> NonNull<T> {
+        match mem::replace(source, Source::Own) {
+            Source::Block(block) => block.into_object(),
+            Source::Warm(_) | Source::Own => impossible!(),
         }
     }
 

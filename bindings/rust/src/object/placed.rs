@@ -1,5 +1,5 @@
 //! Objects of plain types, which stand in the pool's places themselves.
-use super::{Brought, Stored};
+use super::{Source, Stored};
 use crate::clear::Clear;
 use crate::erased::slotcell;
 use crate::shim::Global;
@@ -50,14 +50,14 @@ impl<T> Placed<T> {
 
 impl<T> Stored<T> for Placed<T> {
     #[inline(always)]
-    unsafe fn begin(at: NonNull<Self>, brought: &mut Brought<T>) -> NonNull<T>
+    unsafe fn begin(at: NonNull<Self>, source: &mut Source<T>) -> NonNull<T>
     where
         T: Clear + Default,
     {
         sync::writes(at.as_ptr(), "place");
         // SAFETY: the caller's.
         let place = unsafe { &mut *at.as_ptr() };
-        if let Brought::Warm(warm) = *brought {
+        if let Source::Warm(warm) = *source {
             // SAFETY: the caller's.
             unsafe { place.change_with(warm) };
         } else if !place.is_there() {
