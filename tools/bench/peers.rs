@@ -26,6 +26,7 @@
 //! - `get-many`: the same of 16 own buffers in turn;
 //! - `get-two`, `cycle-two`: `get-many` and `cycle` from two places of call, one after the other;
 //! - `cycle`: a buffer is put and taken away;
+//! - `life`: a buffer is put, read, and taken away;
 //! - `held`: a buffer is put, and taken away while it is read;
 //! - `churn`, `churn-1000`, `churn-20000`, `churn-3000000`: 24 buffers are live, or so many: the oldest is taken away, and a new one put;
 //! - `at-once-1000`: a thousand buffers are put, read, and taken away;
@@ -41,9 +42,16 @@
 //! - `open`, `hundred`, `page`, `million`: a fresh store is given no buffer, or 100, 1,985 or a million, and dropped; `million-kept`: it
 //!   isn't dropped.
 //!
-//! It reads no clock: it is timed from outside.
+//! A case is timed from outside. In one process:
+//!
+//!     ./peers turns 31 4 100000 slab-cycle pardz-cycle  # how many turns, threads, rounds; cases
+//!
+//! does the cases in turns, and prints the lower quartile and the median of a round of each, in nanoseconds, and the median of its time by
+//! that of the first.
 use std::env;
+use std::hint::black_box;
 use std::process::ExitCode;
+use std::time::Instant;
 
 mod pardz;
 mod rounds;
@@ -79,6 +87,7 @@ fn do_rounds<S: Store>(store: &S, name: &str, plan: Plan) -> Option<u64> {
         "get-large" => Some(rounds::get_large(store, plan)),
         "cycle" => Some(rounds::cycle(store, plan)),
         "cycle-two" => Some(rounds::cycle_two(store, plan)),
+        "life" => Some(rounds::life(store, plan)),
         "held" => Some(rounds::held(store, plan)),
         "churn" => Some(rounds::churn(store, plan)),
         "churn-1000" => Some(rounds::churn_of(store, plan, 1000)),
@@ -175,7 +184,49 @@ fn read_words() -> Option<(String, Plan)> {
     Some((case, Plan { threads, rounds }))
 }
 
+/// Does cases in turns, as the words say, and prints their times. None where the words say something else.
+fn take_turns(words: &[String]) -> Option<()> {
+    let [turns, threads, rounds, cases @ ..] = words else {
+        return None;
+    };
+    let turns: usize = turns.parse().ok().filter(|turns| *turns > 0)?;
+    let threads = threads.parse().ok().filter(|threads| *threads > 0)?;
+    let rounds = rounds.parse().ok().filter(|rounds| *rounds > 0)?;
+    let time = |case: &String| {
+        let begin = Instant::now();
+        black_box(do_case(case, Plan { threads, rounds })?);
+        Some(begin.elapsed().as_nanos() as f64 / rounds as f64)
+    };
+    let all_times: Option<Vec<Vec<f64>>> = (0..turns)
+        .map(|_| cases.iter().map(time).collect())
+        .collect();
+    let all_times = all_times?;
+    for (number, case) in cases.iter().enumerate() {
+        let times = all_times.iter().map(|times| times[number]);
+        let parts = all_times.iter().map(|times| times[number] / times[0]);
+        let (times, parts) = (sorted(times), sorted(parts));
+        let [quarter, median] = [turns / 4, turns / 2].map(|at| times[at]);
+        println!(
+            "{case:24} {quarter:12.1} {median:12.1} {:8.3}",
+            parts[turns / 2]
+        );
+    }
+    Some(())
+}
+
+fn sorted(numbers: impl Iterator<Item = f64>) -> Vec<f64> {
+    let mut numbers: Vec<f64> = numbers.collect();
+    numbers.sort_by(f64::total_cmp);
+    numbers
+}
+
 fn main() -> ExitCode {
+    let words: Vec<String> = env::args().skip(1).collect();
+    if words.first().is_some_and(|word| word == "turns") {
+        if take_turns(&words[1..]).is_some() {
+            return ExitCode::SUCCESS;
+        }
+    }
     match read_words().and_then(|(case, plan)| do_case(&case, plan)) {
         Some(count) => {
             println!("{count}");

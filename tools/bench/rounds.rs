@@ -162,6 +162,19 @@ pub fn cycle_two<S: Store>(store: &S, plan: Plan) -> u64 {
     })
 }
 
+/// Each thread puts a buffer, reads it, and takes it away.
+pub fn life<S: Store>(store: &S, plan: Plan) -> u64 {
+    on_threads(plan.threads, |_| {
+        (0..plan.rounds)
+            .map(|_| {
+                let handle = black_box(store.put());
+                let bytes = store.read(&handle);
+                bytes as u64 + u64::from(store.take(handle))
+            })
+            .sum()
+    })
+}
+
 /// Each thread puts a buffer and takes it away while it reads it.
 pub fn held<S: Store>(store: &S, plan: Plan) -> u64 {
     on_threads(plan.threads, |_| {
