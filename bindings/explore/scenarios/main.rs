@@ -16,6 +16,7 @@ mod clears;
 mod growing;
 mod lanes;
 mod late;
+mod lent;
 mod lock;
 mod misses;
 mod owned;
@@ -44,6 +45,7 @@ fn all() -> Vec<Scenario> {
         lanes::all(),
         calls::all(),
         late::all(),
+        lent::all(),
         owned::all(),
         growing::all(),
         wider::all(),

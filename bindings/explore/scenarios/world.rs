@@ -4,6 +4,9 @@ use pardz::{Census, Clear, Key, Lane, Plain, Pool, Shape};
 use std::sync::atomic::{AtomicBool, AtomicUsize, Ordering::SeqCst};
 use std::sync::{Arc, Mutex};
 
+/// More owned handles than end on a thread of a scenario.
+const NEVER: u32 = 1000;
+
 /// How many objects there are.
 static ALIVE: AtomicUsize = AtomicUsize::new(0);
 /// How many were emptied since the schedule began.
@@ -101,6 +104,7 @@ impl Scenario {
     ) -> Scenario {
         let begin = move || {
             EMPTIED.store(0, SeqCst);
+            pardz::lends_after(NEVER);
             set_up()
         };
         let run = move |plan: Plan<'_>, left| {

@@ -2,7 +2,9 @@
 //!
 //! A thread's first call of a pool finds it a lane, which it keeps until it ends. Where all are taken, its first create has a growing
 //! pool open a segment with more. Where there are no more, where a segment hasn't the thread's lane, and for owned handles, a lane is
-//! shared: each call has it under a lock, within which no code of others runs, and what is held by it may be let go by any thread.
+//! shared: each call has it under a lock, within which no code of others runs, and what is held by it may be let go by any thread. To one
+//! owned handle at a time the thread lends its lane: then no lock is taken, unless the handle goes to another thread, or calls are made
+//! meanwhile.
 use crate::clear::Clear;
 use crate::errors::{CreateError, GetError};
 use crate::filling::{OwnedFilling, PoolFilling};
@@ -135,6 +137,9 @@ impl<T: Clear> Pool<T> {
 
     /// As [`create`](Pool::create), of a filling that has a share of the pool's memory and may go to any thread.
     ///
+    /// It takes the lock of a shared lane, and so does what ends it. But a thread with a lane lends that to one owned handle at a time, once
+    /// sixteen have ended there; then neither takes a lock, if it ends there. As long as it doesn't, other calls of the thread take one.
+    ///
     /// # Errors
     ///
     /// As [`create`](Pool::create).
@@ -152,6 +157,7 @@ impl<T: Clear> Pool<T> {
     /// assert_eq!(*pool.get(key.join().expect("no panic")).expect("published"), "abc");
     /// # Ok::<(), Box<dyn std::error::Error>>(())
     /// ```
+    #[inline(always)]
     pub fn create_owned(&self) -> Result<OwnedFilling<T>, CreateError>
     where
         T: Default,
@@ -165,6 +171,8 @@ impl<T: Clear> Pool<T> {
     ///
     /// Where the shared lane has 1,048,575 references, or all lanes of a pool of 64 are in hand.
     ///
+    /// Locks are taken as of [`create_owned`](Pool::create_owned).
+    ///
     /// ```
     /// use pardz::Pool;
     /// use std::thread;
@@ -176,9 +184,10 @@ impl<T: Clear> Pool<T> {
     /// thread::spawn(move || assert_eq!(*text, "abc")).join().expect("no panic");
     /// # Ok::<(), Box<dyn std::error::Error>>(())
     /// ```
-    #[inline]
+    #[inline(always)]
     pub fn get_owned(&self, key: Key) -> Option<OwnedRef<T>> {
-        self.try_get_owned(key).unwrap_or_else(GetError::raise)
+        let held = self.room.get_owned(key).unwrap_or_else(GetError::raise)?;
+        Some(OwnedRef::new(held))
     }
 
     /// As [`get_owned`](Pool::get_owned), but for what that panics at.
@@ -187,7 +196,6 @@ impl<T: Clear> Pool<T> {
     ///
     /// [`GetError::References`] where the shared lane has 1,048,575 references; [`GetError::NoLane`] where all lanes of a pool of 64 are in
     /// hand.
-    #[inline]
     pub fn try_get_owned(&self, key: Key) -> Result<Option<OwnedRef<T>>, GetError> {
         Ok(self.room.get_owned(key)?.map(OwnedRef::new))
     }

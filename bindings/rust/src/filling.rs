@@ -157,6 +157,7 @@ pub struct OwnedFilling<T: Clear = Buffer> {
 }
 
 impl<T: Clear> OwnedFilling<T> {
+    #[inline(always)]
     pub(crate) fn new(begun: FarBegun<T>) -> OwnedFilling<T> {
         OwnedFilling { begun }
     }

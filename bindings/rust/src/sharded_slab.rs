@@ -32,10 +32,9 @@
 //!   leaves an object that nobody has the key of. (A [`RefMut`] that is dropped is published in both, also by a panic.)
 //! - **Within [`Clear::clear`]**, objects of the same segment that it lets go of are emptied when it has returned, so that a chain of any
 //!   length needs no deeper stack. Where it panics its object is dropped.
-//! - **Owned handles keep the pool's memory**, and not the [`Arc`] by which they were made: its count doesn't rise, and a `Weak` finds no
-//!   pool whose last `Arc` was dropped, while an [`OwnedRef`] lives.
 //! - **A create is refused** where memory is, or at the end of 256 segments (175 million places): it knows no most number of threads, and
-//!   works while the thread ends. A lane has 1,048,575 references at most, and four lanes have all the owned ones; one more is a panic.
+//!   works while the thread ends. A lane has 1,048,575 references at most, and four lanes have all the owned ones, but for one that
+//!   each thread's own lane may have; one more is a panic.
 //! - [`OwnedRef`] and [`OwnedRefMut`] are [`Send`] and [`Sync`] where `T` is both. A [`Clear`] is there for more types.
 //! - Keys have 64 bits: the module is there where `usize` has as many.
 //!
@@ -43,9 +42,11 @@
 //!
 //! `Slab` with its entries and iterators. Of [`Config`], `MAX_THREADS`, `MAX_PAGES` and `INITIAL_PAGE_SIZE` are taken and not used.
 pub use crate::clear::Clear;
+use crate::errors::GetError;
 use crate::key::Key;
+use crate::lanes::{self, FarBegun, FarHeld, Kept};
 use crate::pool::Growth;
-use crate::{OwnedFilling, OwnedRef as OwnedItem, PoolFilling, PoolRef};
+use crate::{PoolFilling, PoolRef};
 use std::fmt;
 use std::marker::PhantomData;
 use std::ops::{Deref, DerefMut};
@@ -218,8 +219,9 @@ impl<T: Clear + Default, C: Config> Pool<T, C> {
     /// thread::spawn(move || item.push(1)).join().expect("no panic");
     /// assert_eq!(pool.get(key).expect("published"), vec![1]);
     /// ```
+    #[inline(always)]
     pub fn create_owned(self: Arc<Self>) -> Option<OwnedRefMut<T, C>> {
-        let filling = self.inner.create_owned().ok()?;
+        let filling = lanes::create_owned(self, |pool| &pool.inner).ok()?;
         Some(OwnedRefMut {
             filling: Some(filling),
             config: PhantomData,
@@ -244,8 +246,10 @@ impl<T: Clear + Default, C: Config> Pool<T, C> {
     }
 
     /// As [`get`](Pool::get), with a share of the pool.
+    #[inline(always)]
     pub fn get_owned(self: Arc<Self>, key: usize) -> Option<OwnedRef<T, C>> {
-        let item = self.inner.get_owned(key_of::<C>(key)?)?;
+        let item = lanes::get_owned(self, |pool| &pool.inner, key_of::<C>(key)?);
+        let item = item.unwrap_or_else(GetError::raise)?;
         Some(OwnedRef {
             item,
             config: PhantomData,
@@ -280,13 +284,13 @@ pub struct RefMut<'p, T: Clear + Default, C: Config = DefaultConfig> {
 
 /// A reference with a share of the pool.
 pub struct OwnedRef<T: Clear + Default, C: Config = DefaultConfig> {
-    item: OwnedItem<T>,
+    item: Kept<FarHeld<T>, Pool<T, C>>,
     config: PhantomData<fn() -> C>,
 }
 
 /// An object that is being filled, with a share of the pool. It is published when it is dropped.
 pub struct OwnedRefMut<T: Clear + Default, C: Config = DefaultConfig> {
-    filling: Option<OwnedFilling<T>>,
+    filling: Option<Kept<FarBegun<T>, Pool<T, C>>>,
     config: PhantomData<fn() -> C>,
 }
 
@@ -360,7 +364,7 @@ macro_rules! filling {
         }
 
         impl<$($life,)? T: Clear + Default, C: Config> Drop for $name<$($life,)? T, C> {
-            #[inline]
+            #[inline(always)]
             fn drop(&mut self) {
                 if let Some(filling) = self.filling.take() {
                     filling.publish();

@@ -69,7 +69,8 @@ fn objects_of_shared_lanes_are_used_again() {
     assert_eq!(MADE[1].load(SeqCst), 1);
 }
 
-/// A thread that empties an object of a shared lane uses it for its next owned one, and gives back the one that it had.
+/// A thread that empties an object of a shared lane uses it for its next owned one, and gives back the one that it had. (It lends no lane
+/// yet.)
 #[test]
 fn carried_objects_are_used_again() {
     let pool = Pool::<Made<4>>::open(shape(2, 4)).unwrap();
@@ -80,7 +81,7 @@ fn carried_objects_are_used_again() {
             owned.publish()
         })
     };
-    for _ in 0..50 {
+    for _ in 0..8 {
         for key in fill_two() {
             assert!(pool.clear(key));
         }

@@ -3,7 +3,7 @@ mod common;
 
 use common::limit;
 use pardz::{Key, Lane, Pool, Shape};
-use std::thread;
+use std::{iter, thread};
 
 /// More than a thread knows of at once.
 const MANY: usize = 20;
@@ -136,12 +136,41 @@ fn a_thread_reads_all_segments() {
     thread::scope(|scope| scope.spawn(reads).join().expect("no panic"));
 }
 
-/// A thread that shares in many pools shares in each a lane of that one. (With so few lanes one alone is shared, the last.)
+/// A thread reads by its own lane of each pool, also where that is the second: the first is in hand, and has no reference.
+#[test]
+fn a_thread_reads_by_its_own_lane_of_each_pool() {
+    let _limit = limit();
+    let pools: Vec<_> = (0..MANY).map(|_| opened(2)).collect();
+    let hands: Vec<Option<Lane<'_, String>>> = pools
+        .iter()
+        .enumerate()
+        .map(|(number, pool)| (number % 2 == 1).then(|| pool.lane().expect("a lane")))
+        .collect();
+    let keys: Vec<Key> = pools
+        .iter()
+        .map(|pool| pool.put("abc").expect("a place"))
+        .collect();
+    for _ in 0..3 {
+        for ((pool, hand), key) in pools.iter().zip(&hands).zip(&keys) {
+            // (The first of them finds the lane, and the second knows it.)
+            let texts = [(); 2].map(|()| pool.get(*key).expect("published"));
+            assert!(texts.iter().all(|text| **text == "abc"));
+            assert!(hand.as_ref().map_or(true, |hand| hand.references() == 0));
+        }
+    }
+}
+
+/// A thread that shares in many pools shares in each a lane of that one. (With so few lanes one alone is shared, the last. The others are in
+/// hand, so that it has none to lend.)
 #[test]
 fn a_thread_shares_in_pools_of_other_shapes() {
     let _limit = limit();
     let pools: Vec<_> = (0..MANY)
         .map(|number| opened(1 + number as u32 % 6))
+        .collect();
+    let _hands: Vec<Lane<'_, String>> = pools
+        .iter()
+        .flat_map(|pool| iter::from_fn(|| pool.lane()))
         .collect();
     for _ in 0..3 {
         for (number, pool) in pools.iter().enumerate() {

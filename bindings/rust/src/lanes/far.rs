@@ -1,4 +1,5 @@
-//! Owned handles: each is a user of a shared lane, which keeps the pool's memory as long as it has one.
+//! Owned handles: to each its thread's lane is lent, which is one at a time; or it is a user of a shared lane, which keeps the pool's memory
+//! as long as it has one.
 use super::room::Room;
 use super::seat::{Joint, Post};
 use super::token::{Begun, Far, Held, Spend, Spent};
@@ -12,16 +13,33 @@ use std::process;
 use std::ptr::{self, NonNull};
 
 impl<T: Clear> Room<T> {
+    #[inline(always)]
     pub(crate) fn create_owned(&self) -> Result<FarBegun<T>, CreateError>
     where
         T: Default,
     {
-        let begun = match self.create_by_last(|post| self.carried(post), Joint::come) {
-            Some(begun) => begun,
-            None => Begun::by_parts(self.create_owned_further())?,
+        let begun = match self.lendable().and_then(|own| self.create_lent(own)) {
+            Some(begun) => begun?,
+            None => Begun::by_parts(self.create_owned_apart())?,
         };
-        // SAFETY: the handle is a user of the lane.
+        // SAFETY: the lane is lent to the handle, or has it as a user.
         Ok(FarBegun(Spent::new(unsafe { begun.far() })))
+    }
+
+    /// A create by a thread that isn't known to have a lane to lend.
+    #[inline(never)]
+    fn create_owned_apart(&self) -> Result<Begun<'_, T, Far>, CreateError>
+    where
+        T: Default,
+    {
+        let lendable = self.lendable_apart();
+        if let Some(created) = lendable.and_then(|own| self.create_lent(own)) {
+            return created;
+        }
+        match self.create_by_last(|post| self.carried(post), Joint::come) {
+            Some(begun) => Ok(begun),
+            None => Begun::by_parts(self.create_owned_further()),
+        }
     }
 
     #[cold]
@@ -44,14 +62,35 @@ impl<T: Clear> Room<T> {
         own?.carried(post.number())
     }
 
-    #[inline]
+    #[inline(always)]
     pub(crate) fn get_owned(&self, key: Key) -> Result<Option<FarHeld<T>>, GetError> {
+        let held = match self.lendable() {
+            Some(own) => {
+                let Some(segment) = self.segment_with(key) else {
+                    return Ok(None);
+                };
+                match self.get_lent(own, segment, key) {
+                    Some(held) => held,
+                    None => self.get_owned_apart(key)?.map(Held::by_parts),
+                }
+            }
+            None => self.get_owned_apart(key)?.map(Held::by_parts),
+        };
+        // SAFETY: the lane is lent to the handle, or has it as a user.
+        Ok(held.map(|held| FarHeld::new(unsafe { held.far() })))
+    }
+
+    /// A get by a thread that isn't known to have a lane to lend.
+    #[inline(never)]
+    fn get_owned_apart(&self, key: Key) -> Result<Option<Held<'_, T, Far>>, GetError> {
         let Some(segment) = self.segment_with(key) else {
             return Ok(None);
         };
-        let held = self.by_shared(segment, |post| post.shared_get(key, Joint::come))??;
-        // SAFETY: the handle is a user of the lane.
-        Ok(held.map(|held| FarHeld::new(unsafe { held.far() })))
+        let lendable = self.lendable_apart();
+        match lendable.and_then(|own| self.get_lent(own, segment, key)) {
+            Some(held) => Ok(held),
+            None => self.by_shared(segment, |post| post.shared_get(key, Joint::come))?,
+        }
     }
 }
 
@@ -81,12 +120,21 @@ impl<T: Clear> Held<'_, T, Far> {
 /// What an owned handle fills.
 pub(crate) struct FarBegun<T: Clear>(Spent<Begun<'static, T, Far>>);
 
-// SAFETY: all that is done by it is done under the lock of its lane.
+// SAFETY: all that is done by it is done under the lock of its lane, or by the thread that lends it the lane.
 unsafe impl<T: Clear + Send + Sync> Send for FarBegun<T> {}
 // SAFETY: as above.
 unsafe impl<T: Clear + Send + Sync> Sync for FarBegun<T> {}
 
 impl<T: Clear> FarBegun<T> {
+    /// # Safety
+    ///
+    /// The pool isn't dropped before it is spent, or what its downgrade gives.
+    #[inline(always)]
+    pub(super) unsafe fn kept(self) -> FarBegun<T> {
+        FarBegun(Spent::new(self.0.into_inner().kept()))
+    }
+
+    #[inline(always)]
     pub(crate) fn key(&self) -> Key {
         self.0.key()
     }
@@ -101,10 +149,11 @@ impl<T: Clear> FarBegun<T> {
         self.0.object_mut()
     }
 
+    #[inline(always)]
     pub(crate) fn publish(self) -> Key {
         let begun = self.0.into_inner();
-        // SAFETY: it is of its own lane, and is a user of it.
-        unsafe { begun.post().far_publish(begun) }
+        let (post, (object, key, start)) = (begun.post(), begun.into_words());
+        publish(post, object, key, start)
     }
 
     /// # Panics
@@ -112,9 +161,17 @@ impl<T: Clear> FarBegun<T> {
     /// Where the lane has as many references as it may; nothing is published then.
     pub(crate) fn downgrade(self) -> FarHeld<T> {
         let begun = self.0.into_inner();
-        let post = begun.post();
-        // SAFETY: the lane of a handle is shared, and this is of its own lane. The user that it was is that of the reference then.
-        match unsafe { post.locked(|turn, _| turn.downgrade(begun)) } {
+        let (post, is_shared, is_kept) = (begun.post(), begun.is_shared(), begun.is_kept());
+        let published = if is_shared {
+            // SAFETY: the lane of a handle is shared, and this is of its own lane. The user that it was is that of the reference then.
+            let published = unsafe { post.locked(|turn, _| turn.downgrade(begun)) };
+            published.map(Held::shared)
+        } else {
+            // SAFETY: it is of its own lane, which is lent to it, and to the reference then.
+            unsafe { post.lent_downgrade(begun) }
+        };
+        match published {
+            Ok(held) if is_kept => FarHeld::new(held.kept()),
             Ok(held) => FarHeld::new(held),
             Err(begun) => {
                 begun.spend();
@@ -122,6 +179,33 @@ impl<T: Clear> FarBegun<T> {
             }
         }
     }
+}
+
+/// A publish of what an owned handle filled. (Apart, and by its words, which stay in registers.)
+#[inline(never)]
+fn publish<T: Clear>(post: Post<'static, T>, object: NonNull<T>, key: Key, start: u64) -> Key {
+    // SAFETY: they are those of a filling, which is spent here.
+    let begun = unsafe { Begun::from_words(post, (object, key, start), Far) };
+    if begun.is_shared() {
+        publish_shared(post, object, key, start)
+    } else {
+        // SAFETY: it is of its own lane, which is lent to it.
+        unsafe { post.lent_publish(begun) }
+    }
+}
+
+/// The same of a shared lane.
+#[inline(never)]
+fn publish_shared<T: Clear>(
+    post: Post<'static, T>,
+    object: NonNull<T>,
+    key: Key,
+    start: u64,
+) -> Key {
+    // SAFETY: they are those of a filling, which is spent here.
+    let begun = unsafe { Begun::from_words(post, (object, key, start), Far) };
+    // SAFETY: it is of its own lane, and is a user of it.
+    unsafe { post.far_publish(begun) }
 }
 
 impl<T: Clear> Spend for Begun<'static, T, Far> {
@@ -137,16 +221,42 @@ impl<T: Clear> Spend for Begun<'static, T, Far> {
 fn give_back_far<T: Clear>(post: Post<'static, T>, words: (NonNull<T>, Key, u64)) {
     // SAFETY: they are those of a filling, which is spent here.
     let begun = unsafe { Begun::from_words(post, words, Far) };
-    // SAFETY: it is of its own lane, and is a user of it.
-    unsafe { post.far_give_back(begun) };
+    if begun.is_shared() {
+        // SAFETY: it is of its own lane, and is a user of it.
+        unsafe { post.far_give_back(begun) };
+    } else {
+        // SAFETY: it is of its own lane, which is lent to it.
+        unsafe { post.lent_give_back(begun) };
+    }
 }
 
 impl<T: Clear> Spend for Held<'static, T, Far> {
     #[inline(always)]
     fn spend(self) {
-        // SAFETY: it is of its own lane, and is a user of it.
-        unsafe { self.post().far_release(self) };
+        release(self.post(), self.into_words());
     }
+}
+
+/// The drop of the last handle of a reference. (Apart, and by its words, as of a call of the pool.)
+#[inline(never)]
+fn release<T: Clear>(post: Post<'static, T>, words: (NonNull<T>, Key, u64)) {
+    // SAFETY: they are those of a reference, which is spent here.
+    let held = unsafe { Held::from_words(post, words, Far) };
+    if held.is_shared() {
+        release_shared(post, held.into_words());
+    } else {
+        // SAFETY: it is of its own lane, which is lent to it.
+        unsafe { post.lent_release(held) };
+    }
+}
+
+/// The same of a shared lane.
+#[inline(never)]
+fn release_shared<T: Clear>(post: Post<'static, T>, words: (NonNull<T>, Key, u64)) {
+    // SAFETY: they are those of a reference, which is spent here.
+    let held = unsafe { Held::from_words(post, words, Far) };
+    // SAFETY: it is of its own lane, and is a user of it.
+    unsafe { post.far_release(held) };
 }
 
 /// A reference that several owned handles have.
@@ -157,7 +267,7 @@ pub(crate) struct FarHeld<T: Clear> {
     count: AtomicPtr<AtomicUsize>,
 }
 
-// SAFETY: all that is done by it is done under the lock of its lane, but for the count, which is `Sync`.
+// SAFETY: all that is done by it is done under the lock of its lane, or by the thread that lends it the lane, but for the count, which is `Sync`.
 unsafe impl<T: Clear + Send + Sync> Send for FarHeld<T> {}
 // SAFETY: as above.
 unsafe impl<T: Clear + Send + Sync> Sync for FarHeld<T> {}
@@ -169,6 +279,17 @@ impl<T: Clear> FarHeld<T> {
             held: ManuallyDrop::new(held),
             count: AtomicPtr::new(ptr::null_mut()),
         }
+    }
+
+    /// # Safety
+    ///
+    /// The pool isn't dropped before it, and it isn't cloned.
+    #[inline(always)]
+    pub(super) unsafe fn kept(mut self) -> FarHeld<T> {
+        // SAFETY: it is put back at once.
+        let held = unsafe { ManuallyDrop::take(&mut self.held) };
+        self.held = ManuallyDrop::new(held.kept());
+        self
     }
 
     pub(crate) fn key(&self) -> Key {
@@ -221,7 +342,7 @@ impl<T: Clear> Clone for FarHeld<T> {
 }
 
 impl<T: Clear> Drop for FarHeld<T> {
-    #[inline]
+    #[inline(always)]
     fn drop(&mut self) {
         if let Some(count) = NonNull::new(*self.count.get_mut()) {
             if !is_last(count) {

@@ -5,7 +5,7 @@
 //! | call | asks | taken over by |
 //! |---|---|---|
 //! | all of a lane | that the lane is one of the pool's (`Owns`) | a [`Seat`](seat::Seat) never leaves its [`Segment`](segment::Segment), where `open` put it beside the pool |
-//! | all of a lane | that nobody else uses the lane meanwhile (`&mut`) | a [`Turn`](turn::Turn), which a thread has that has the lane alone ([`Own`](own::Own)): in hand, by a [`Number`](who::Number), or until it ends; or who has its lock, where it is shared; no code of others runs within a turn, so none calls back |
+//! | all of a lane | that nobody else uses the lane meanwhile (`&mut`) | a [`Turn`](turn::Turn), which a thread has that has the lane alone ([`Own`](own::Own)): in hand, by a [`Number`](who::Number), or until it ends, but as long as it [lends](lent) the lane to an owned handle; or who has its lock, where it is shared or lent; or the thread that lends it where that handle ends there; no code of others runs within a turn, so none calls back |
 //! | `get`, `downgrade` | fewer references than the most | a test in front of each |
 //! | `publish`, `downgrade` | that the lane made the filling, and hasn't published it (`Made`) | a [`Begun`](token::Begun), which has the lane's seat, and is spent by the call |
 //! | `release`, `read` | that the lane has a reference to the key | a [`Held`](token::Held), likewise |
@@ -24,6 +24,8 @@ mod emptying;
 mod far;
 mod give_back;
 mod in_hand;
+mod kept;
+mod lent;
 mod lock;
 mod of_thread;
 mod own;
@@ -42,5 +44,8 @@ mod who;
 
 pub(crate) use far::{FarBegun, FarHeld};
 pub(crate) use in_hand::Hand;
+pub(crate) use kept::{create_owned, get_owned, Kept};
 pub(crate) use share::Share;
+#[cfg(pardz_explore)]
+pub use threads::{lends_after, lends_still};
 pub(crate) use token::{Begun, Held, InHand, OfThread, Spent};

@@ -5,7 +5,8 @@ use super::own::Own;
 use super::room::Room;
 use super::seat::{Near, Post};
 use super::segment::Segment;
-use super::threads;
+use super::shared::NotShared;
+use super::threads::{self, Within};
 use super::token::{Begun, Held, OfThread, Spend, Spent};
 use super::turn::Brought;
 use super::who::Caller;
@@ -18,27 +19,33 @@ use std::ptr::{self, NonNull};
 enum Way<'s, T: Clear> {
     /// The thread has the lane alone.
     Own(Own<'s, T>),
-    /// The lane is shared.
-    Shared(Post<'s, T>),
-    /// The thread had the lane, and has left it, as it ends.
-    Left(Post<'s, T>),
+    /// The lane is shared; or the thread has left it, or lends it.
+    Locked(Post<'s, T>),
 }
 
 impl<'s, T: Clear> Way<'s, T> {
     /// # Safety
     ///
     /// A call of the pool by this thread gave what is of this lane, which was shared, or the thread's.
-    #[inline(always)]
     unsafe fn of(post: Post<'s, T>, is_shared: bool) -> Way<'s, T> {
-        if is_shared {
-            Way::Shared(post)
-        } else if threads::has_ended() {
-            Way::Left(post)
+        if is_shared || threads::has_ended() || post.is_lent() {
+            Way::Locked(post)
         } else {
-            // SAFETY: the thread keeps its lane until it has ended.
+            // SAFETY: the thread keeps its lane, and doesn't lend it.
             Way::Own(unsafe { Own::of(post) })
         }
     }
+}
+
+/// The lane, where a look tells that the thread has it alone.
+///
+/// # Safety
+///
+/// As of [`Way::of`].
+#[inline(always)]
+unsafe fn own_at_once<T: Clear>(post: Post<'_, T>, is_shared: bool) -> Option<Own<'_, T>> {
+    // SAFETY: a thread that isn't apart keeps its lanes, and lends none.
+    (!is_shared && !threads::is_apart()).then(|| unsafe { Own::of(post) })
 }
 
 impl<T: Clear> Room<T> {
@@ -60,9 +67,23 @@ impl<T: Clear> Room<T> {
         T: Default,
     {
         self.first()?;
+        let _within = Within::new();
         match self.caller_for_create() {
             Caller::Own(own) => own.create(|own, brought| self.create_apart(own, brought)),
+            Caller::Lending(number) => self.create_by_lending(number),
             Caller::Sharing => self.create_by_sharing(),
+        }
+    }
+
+    /// A create by the lane that the thread lends, where that had a place last; or by a shared one.
+    fn create_by_lending(&self, number: u32) -> Result<Begun<'_, T, OfThread>, CreateError>
+    where
+        T: Default,
+    {
+        let post = self.last_post(number).expect("a segment is open");
+        match post.shared_create(None, |_| ()) {
+            Ok(Ok(begun)) => Ok(begun),
+            _ => self.create_by_sharing(),
         }
     }
 
@@ -77,6 +98,7 @@ impl<T: Clear> Room<T> {
     where
         T: Default,
     {
+        let _within = Within::new();
         if !self.passes(own.post().number()) {
             return match own.create_apart(brought) {
                 Err(CreateError::Full) => self.create_further(Some(own)),
@@ -171,11 +193,28 @@ impl<T: Clear> Room<T> {
         let own = match caller {
             // SAFETY: it is of this pool.
             Caller::Own(own) => unsafe { own.within(segment) },
-            Caller::Sharing => None,
+            Caller::Lending(_) | Caller::Sharing => None,
         };
         match own {
             Some(own) => own.try_get(key),
-            None => self.by_shared(segment, |post| post.shared_get(key, |_| ()))?,
+            None => self.by_lock(caller, segment, |post| post.shared_get(key, |_| ()))?,
+        }
+    }
+
+    /// A call by the lane that the thread lends, where the segment has that; or by a shared one.
+    fn by_lock<'s, R>(
+        &self,
+        caller: Caller<'_, T>,
+        segment: &'s Segment<T>,
+        call: impl Fn(Post<'s, T>) -> Result<R, NotShared>,
+    ) -> Result<R, GetError> {
+        let lent = match caller {
+            Caller::Lending(number) => segment.post_of(number),
+            Caller::Own(_) | Caller::Sharing => None,
+        };
+        match lent.map(&call) {
+            Some(Ok(answer)) => Ok(answer),
+            Some(Err(NotShared)) | None => self.by_shared(segment, call),
         }
     }
 
@@ -215,7 +254,7 @@ impl<T: Clear> Room<T> {
     ) -> bool {
         // SAFETY: it is of this pool.
         let Some(own) = (unsafe { own.within(segment) }) else {
-            return self.clear_by_shared(segment, key);
+            return self.clear_by_lock(Caller::Sharing, segment, key);
         };
         if self.is_of_shared(own, key) {
             return self.clear_of_shared(segment, own, key, start);
@@ -241,14 +280,14 @@ impl<T: Clear> Room<T> {
         match (self.caller(), self.segment_with(key)) {
             (_, None) => false,
             (Caller::Own(own), _) => self.clear_by_own(own, key),
-            (Caller::Sharing, Some(segment)) => self.clear_by_shared(segment, key),
+            (caller, Some(segment)) => self.clear_by_lock(caller, segment, key),
         }
     }
 
-    /// A clear by a shared lane.
+    /// A clear by the lane that the thread lends, or by a shared one.
     #[inline(never)]
-    fn clear_by_shared(&self, segment: &Segment<T>, key: Key) -> bool {
-        let cleared = self.by_shared(segment, |post| post.shared_clear(key));
+    fn clear_by_lock(&self, caller: Caller<'_, T>, segment: &Segment<T>, key: Key) -> bool {
+        let cleared = self.by_lock(caller, segment, |post| post.shared_clear(key));
         cleared.unwrap_or_else(GetError::raise)
     }
 
@@ -276,7 +315,6 @@ impl<T: Clear> Room<T> {
 }
 
 impl<'p, T: Clear> Begun<'p, T, OfThread> {
-    #[inline(always)]
     fn way(&self) -> Way<'p, T> {
         // SAFETY: a call of the pool by this thread gave it, and it stays on its thread.
         unsafe { Way::of(self.post(), self.is_shared()) }
@@ -284,10 +322,11 @@ impl<'p, T: Clear> Begun<'p, T, OfThread> {
 
     #[inline(always)]
     pub(crate) fn publish(self) -> Key {
-        match self.way() {
+        // SAFETY: a call of the pool by this thread gave it, and it stays on its thread.
+        match unsafe { own_at_once(self.post(), self.is_shared()) } {
             // SAFETY: it is of its own lane.
-            Way::Own(own) => unsafe { own.publish(self) },
-            Way::Shared(_) | Way::Left(_) => publish_locked(self.post(), self.into_words()),
+            Some(own) => unsafe { own.publish(self) },
+            None => publish_apart(self.post(), self.into_words()),
         }
     }
 
@@ -299,7 +338,7 @@ impl<'p, T: Clear> Begun<'p, T, OfThread> {
         let published = match self.way() {
             // SAFETY: it is of its own lane.
             Way::Own(own) => unsafe { own.downgrade(self) },
-            Way::Shared(post) | Way::Left(post) => {
+            Way::Locked(post) => {
                 // SAFETY: no thread has such a lane alone, and it is of its own lane.
                 let published = unsafe { post.locked(|turn, _| turn.downgrade(self)) };
                 published.map(Held::shared)
@@ -315,13 +354,17 @@ impl<'p, T: Clear> Begun<'p, T, OfThread> {
     }
 }
 
-/// A publish under the lock. (By its parts, which stay in registers.)
+/// The same elsewhere. (By its parts, which stay in registers.)
 #[inline(never)]
-fn publish_locked<T: Clear>(post: Post<'_, T>, words: (NonNull<T>, Key, u64)) -> Key {
+fn publish_apart<T: Clear>(post: Post<'_, T>, words: (NonNull<T>, Key, u64)) -> Key {
     // SAFETY: they are those of a filling, which is spent here.
     let begun = unsafe { Begun::from_words(post, words, OfThread) };
-    // SAFETY: no thread has such a lane alone, and it is of its own lane.
-    unsafe { post.locked(|turn, _| turn.publish(begun)) }
+    match begun.way() {
+        // SAFETY: it is of its own lane.
+        Way::Own(own) => unsafe { own.publish(begun) },
+        // SAFETY: no thread has such a lane alone, and it is of its own lane.
+        Way::Locked(post) => unsafe { post.locked(|turn, _| turn.publish(begun)) },
+    }
 }
 
 impl<T: Clear> Spend for Begun<'_, T, OfThread> {
@@ -340,7 +383,7 @@ fn give_back_of_thread<T: Clear>(post: Post<'_, T>, words: (NonNull<T>, Key, u64
     give_back(begun, |begun, is_empty| match begun.way() {
         // SAFETY: it is of its own lane.
         Way::Own(own) => unsafe { own.publish_and_clear(begun, is_empty) },
-        Way::Shared(post) | Way::Left(post) => {
+        Way::Locked(post) => {
             // SAFETY: no thread has such a lane alone, and it is of its own lane.
             unsafe { post.locked(|turn, _| turn.publish_and_clear(begun, is_empty)) }
         }
@@ -348,7 +391,6 @@ fn give_back_of_thread<T: Clear>(post: Post<'_, T>, words: (NonNull<T>, Key, u64
 }
 
 impl<'p, T: Clear> Held<'p, T, OfThread> {
-    #[inline(always)]
     fn way(&self) -> Way<'p, T> {
         // SAFETY: a call of the pool by this thread gave it, and it stays on its thread.
         unsafe { Way::of(self.post(), self.is_shared()) }
@@ -359,7 +401,7 @@ impl<'p, T: Clear> Held<'p, T, OfThread> {
         let held = match self.way() {
             Way::Own(own) => own.try_get(self.key()),
             // SAFETY: no thread has such a lane alone.
-            Way::Shared(post) | Way::Left(post) => unsafe { post.locked_get(self.key()) },
+            Way::Locked(post) => unsafe { post.locked_get(self.key()) },
         };
         held.unwrap_or_else(GetError::raise).map(Spent::new)
     }
@@ -384,17 +426,22 @@ impl<T: Clear> Spend for Held<'_, T, OfThread> {
 fn release<T: Clear>(post: Post<'_, T>, words: (NonNull<T>, Key, u64)) {
     // SAFETY: they are those of a reference, which is spent here.
     let held = unsafe { Held::from_words(post, words, OfThread) };
-    match held.way() {
+    // SAFETY: a call of the pool by this thread gave it, and it stays on its thread.
+    match unsafe { own_at_once(post, held.is_shared()) } {
         // SAFETY: it is of its own lane.
-        Way::Own(own) => unsafe { own.release(held) },
-        Way::Shared(_) | Way::Left(_) => release_locked(post, held.into_words()),
+        Some(own) => unsafe { own.release(held) },
+        None => release_apart(post, held.into_words()),
     }
 }
 
 #[inline(never)]
-fn release_locked<T: Clear>(post: Post<'_, T>, words: (NonNull<T>, Key, u64)) {
+fn release_apart<T: Clear>(post: Post<'_, T>, words: (NonNull<T>, Key, u64)) {
     // SAFETY: they are those of a reference, which is spent here.
     let held = unsafe { Held::from_words(post, words, OfThread) };
-    // SAFETY: no thread has such a lane alone, and it is of its own lane.
-    unsafe { post.locked_release(held) };
+    match held.way() {
+        // SAFETY: it is of its own lane.
+        Way::Own(own) => unsafe { own.release(held) },
+        // SAFETY: no thread has such a lane alone, and it is of its own lane.
+        Way::Locked(post) => unsafe { post.locked_release(held) },
+    }
 }

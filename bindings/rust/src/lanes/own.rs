@@ -2,6 +2,7 @@
 use super::room::Room;
 use super::seat::{Near, Post, Stands};
 use super::segment::Segment;
+use super::threads::Within;
 use super::token::{Begun, By, Held};
 use super::turn::{with_new, with_page, AtHand, Brought, Short, Turn};
 use crate::clear::Clear;
@@ -61,7 +62,7 @@ impl<'s, T: Clear, P: Stands<'s, T>> Own<'s, T, P> {
     /// Empties what the last call took out, if it was the last to let go of an object. Calls that are made meanwhile, by `T::clear`,
     /// leave theirs to this one.
     #[inline(always)]
-    fn finish(self) {
+    pub(super) fn finish(self) {
         if let Some(block) = self.turn().taken() {
             self.let_go(block);
         }
@@ -139,6 +140,12 @@ impl<'s, T: Clear, P: Stands<'s, T>> Own<'s, T, P> {
         }
         mem::forget(others);
         self.turn().store().empties = false;
+    }
+
+    /// Whether an object of this segment is being emptied, by a call further out on the stack.
+    #[inline(always)]
+    pub(super) fn is_emptying(self) -> bool {
+        self.turn().store().empties
     }
 
     /// An object that is to be emptied.
@@ -375,6 +382,18 @@ impl<'s, T: Clear, P: Stands<'s, T>> Own<'s, T, P> {
         }
     }
 
+    /// Gives a reference back. False where that took an object out, which is to be emptied by [`finish`](Own::finish).
+    ///
+    /// # Safety
+    ///
+    /// It is of this lane.
+    #[inline(always)]
+    pub(super) unsafe fn release_only<W>(self, held: Held<'s, T, W>) -> bool {
+        // SAFETY: the caller's.
+        unsafe { self.turn().release(held) };
+        !self.turn().has_taken()
+    }
+
     /// Gives a reference back.
     ///
     /// # Safety
@@ -396,8 +415,9 @@ impl<'s, T: Clear, P: Stands<'s, T>> Own<'s, T, P> {
 #[cold]
 #[inline(never)]
 unsafe fn make<T: Clear + Default>(post: Post<'_, T>) -> Result<Block<T>, CreateError> {
-    // SAFETY: the caller's.
+    // SAFETY: the caller's, and the lane isn't lent meanwhile.
     let own = unsafe { Own::of(post) };
+    let _within = Within::new();
     let wanted = own.turn().wants();
     Ok(with_new(wanted, |object, chunk| {
         own.turn().put(object, chunk)

@@ -2,7 +2,7 @@
 use super::lock::rest;
 use super::seat::Post;
 use super::segment::{row_for, Segment, Sight};
-use super::sizes::{lends_behind, opens_for_many, shape_of, FOR_LANES, LANES, SHARED};
+use super::sizes::{opens_for_many, shape_of, shares_home_behind, FOR_LANES, LANES, SHARED};
 use super::who::{first_bits, Lanes};
 use crate::clear::Clear;
 use crate::erased::keybits::{tag_of, GREATEST_TAG, MOST_LANES};
@@ -260,7 +260,7 @@ impl<T: Clear> Room<T> {
         let pays = |growth: Growth| {
             let next = shape_of(count, self.lanes.count(), growth).checked();
             let places = next.map_or(u32::MAX, |next| SHARED * next.shard_places());
-            !lends_behind(count) && passed.load(Ordering::Relaxed) >= places
+            !shares_home_behind(count) && passed.load(Ordering::Relaxed) >= places
         };
         let are_many = || opens_for_many(count) && self.lanes.are_many_taken();
         self.growth.is_some_and(|growth| are_many() || pays(growth))
@@ -268,8 +268,8 @@ impl<T: Clear> Room<T> {
 
     /// Whether a lane that nobody has is lent to all, rather than that a segment is opened behind so many: from
     /// some number on, and as long as many are at home.
-    pub(super) fn lends(&self, count: usize) -> bool {
-        self.grows() && lends_behind(count) && self.lanes.are_many_home()
+    pub(super) fn shares_home_first(&self, count: usize) -> bool {
+        self.grows() && shares_home_behind(count) && self.lanes.are_many_home()
     }
 
     /// Opens a further segment, unless there are other than so many by now. Where another thread opens one, it waits a while for that:

@@ -1,7 +1,9 @@
 //! The seats of a segment: each has a lane of the proved pool, with its blocks.
+use super::lent::Lent;
 use super::lock::{Had, Lock};
 use super::proved::ProvedLane;
 use super::segment::Segment;
+use super::token::By;
 use super::turn::Turn;
 use crate::clear::Clear;
 use crate::erased::keybits;
@@ -24,6 +26,7 @@ pub(super) struct Seat<T: Clear> {
     pub(super) fillings: AtomicU32,
     pub(super) opened: AtomicU32,
     lock: Lock,
+    pub(super) lent: Lent,
     joint: UnsafeCell<Joint>,
     /// The segment, once that stands where it stays; null before.
     segment: UnsafeCell<*const Segment<T>>,
@@ -106,6 +109,7 @@ impl<T: Clear> Seat<T> {
             fillings: AtomicU32::new(0),
             opened: AtomicU32::new(0),
             lock: Lock::new(),
+            lent: Lent::new(),
             joint: UnsafeCell::new(Joint::default()),
             segment: UnsafeCell::new(ptr::null()),
         }
@@ -299,14 +303,19 @@ impl<'s, T: Clear> Post<'s, T> {
         unsafe { Turn::of(self) }
     }
 
-    /// Has the lane for calls, where threads share it. None where they don't.
+    /// Has the lane for calls of this way, where threads share it, or the thread lends it. None where they don't.
     #[inline(always)]
-    pub(super) fn shared<R>(
+    pub(super) fn shared<W: By<T>, R>(
         self,
         with: impl FnOnce(&mut Turn<'s, T>, &mut Joint) -> R,
     ) -> Option<R> {
-        let had = self.seat().lock.shared()?;
-        // SAFETY: who has the lock of a shared lane uses it alone.
+        let lock = &self.seat().lock;
+        let had = match lock.shared() {
+            Some(had) => had,
+            None if W::STAYS && self.is_lent_here() => lock.any(),
+            None => return None,
+        };
+        // SAFETY: who has the lock of a lane that is shared, or lent, uses it alone.
         Some(unsafe { self.under(had, with) })
     }
 
@@ -371,7 +380,12 @@ impl<'s, T: Clear> Post<'s, T> {
         self.seat().lock.any().set_shared(true);
     }
 
-    /// Nobody shares the lane any more, where no filling, reference or user of it is left. Whether that is so.
+    /// Whether the lane is lent, by this seat.
+    pub(super) fn is_lent(self) -> bool {
+        self.seat().lent.is_lent()
+    }
+
+    /// Nobody shares the lane any more, where no filling, reference or user of it is left, and it isn't lent. Whether that is so.
     ///
     /// # Safety
     ///
@@ -381,11 +395,27 @@ impl<'s, T: Clear> Post<'s, T> {
         sync::writes(self.seat().joint.get(), JOINT);
         // SAFETY: who has the lock of a lane that no thread has alone uses it alone.
         let (mut turn, joint) = unsafe { (self.turn(), &mut *self.seat().joint.get()) };
-        let is_idle = joint.users == 0 && turn.counts() == joint.lost;
+        let is_idle = joint.users == 0 && turn.counts() == joint.lost && !self.is_lent();
         if is_idle {
             had.set_shared(false);
         }
         is_idle
+    }
+
+    /// How many fillings and references the lane has that aren't leaked, and whether an object of the segment is being emptied.
+    ///
+    /// # Safety
+    ///
+    /// No thread has the lane alone.
+    pub(super) unsafe fn in_use(self) -> (u32, bool) {
+        // SAFETY: the caller's.
+        unsafe {
+            self.locked(|turn, joint| {
+                let ((fillings, references), lost) = (turn.counts(), joint.lost);
+                let count = fillings + references - lost.0 - lost.1;
+                (count, turn.store().empties)
+            })
+        }
     }
 
     /// The fillings and references that the lane has are leaked.

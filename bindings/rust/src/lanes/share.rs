@@ -39,13 +39,20 @@ impl<T: Clear> Share<T> {
             .close()
     }
 
-    /// Each lane that owned handles have gets a share.
+    /// Each lane that owned handles have, or to which it is lent, gets a share.
     fn leave_to_handles(&self) {
         for post in self.posts() {
             post.joint(|joint| {
                 let more = usize::from(joint.outlive());
                 self.shares().fetch_add(more, Ordering::Relaxed);
             });
+            if post.is_lent() {
+                // (In front, since the handle may end at once.)
+                self.shares().fetch_add(1, Ordering::Relaxed);
+                if !post.seat().lent.outlive() {
+                    self.shares().fetch_sub(1, Ordering::Relaxed);
+                }
+            }
         }
     }
 }

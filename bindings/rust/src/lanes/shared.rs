@@ -2,6 +2,7 @@
 //! of a place comes back, and is emptied behind the lock; or within it, where this crate's code and std's alone does that.
 use super::seat::{Joint, Post};
 use super::segment::Segment;
+use super::threads;
 use super::token::{Begun, By, Far, Held, OfThread};
 use super::turn::{with_new, with_page, AtHand, Brought, Short, Turn};
 use crate::clear::Clear;
@@ -71,7 +72,7 @@ impl<'s, T: Clear> Post<'s, T> {
         T: Default,
     {
         let carried = carried.map(Some);
-        let begun = self.shared(|turn, joint| match carried.or_else(|| turn.bring()) {
+        let begun = self.shared::<W, _>(|turn, joint| match carried.or_else(|| turn.bring()) {
             Some(brought) => Ok(create_short(turn, joint, brought, &come)),
             None => Err(turn.wants()),
         });
@@ -112,7 +113,7 @@ impl<'s, T: Clear> Post<'s, T> {
         T: Default,
     {
         let begun = with_new(wanted, |object, chunk| {
-            let begun = self.shared(|turn, joint| {
+            let begun = self.shared::<W, _>(|turn, joint| {
                 let block = turn.put(object, chunk)?;
                 Ok(create_short(turn, joint, Some(block), &come))
             });
@@ -140,7 +141,7 @@ impl<'s, T: Clear> Post<'s, T> {
         T: Default,
     {
         let created = with_page(brought, |brought, ready| {
-            let created = self.shared(|turn, joint| {
+            let created = self.shared::<W, _>(|turn, joint| {
                 let begun = turn.create_apart(brought, ready)?;
                 come(joint);
                 Ok(begun.shared())
@@ -165,7 +166,7 @@ impl<'s, T: Clear> Post<'s, T> {
         key: Key,
         come: impl Fn(&mut Joint),
     ) -> Result<Result<Option<Held<'s, T, W>>, GetError>, NotShared> {
-        let got = self.shared(|turn, joint| {
+        let got = self.shared::<W, _>(|turn, joint| {
             let got = get(turn, joint, key)?;
             if got.is_ok() {
                 come(joint);
@@ -190,7 +191,8 @@ impl<'s, T: Clear> Post<'s, T> {
 
     /// A clear of this segment.
     pub(super) fn shared_clear(self, key: Key) -> Result<bool, NotShared> {
-        let cleared = self.shared(|turn, joint| (turn.clear(key), taken(turn, joint)));
+        let cleared =
+            self.shared::<OfThread, _>(|turn, joint| (turn.clear(key), taken(turn, joint)));
         let (cleared, taken) = cleared.ok_or(NotShared)?;
         self.finish(taken);
         Ok(cleared)
@@ -262,7 +264,7 @@ impl<'s, T: Clear> Post<'s, T> {
     /// # Safety
     ///
     /// No thread has the lane alone, and the reference is of this lane.
-    pub(super) unsafe fn locked_release(self, held: Held<'_, T, OfThread>) {
+    pub(super) unsafe fn locked_release<W>(self, held: Held<'_, T, W>) {
         // SAFETY: the caller's.
         let taken = unsafe {
             self.locked(|turn, joint| {
@@ -283,6 +285,7 @@ impl<T: Clear> Post<'_, T> {
     /// The reference is of this lane, and the handle is counted.
     #[inline(always)]
     pub(super) unsafe fn far_release(self, held: Held<'_, T, Far>) {
+        threads::handle_ended();
         // SAFETY: the lane of a handle is shared. The rest is the caller's.
         let (taken, is_last) = unsafe {
             self.locked(|turn, joint| {
@@ -313,6 +316,7 @@ impl<T: Clear> Post<'_, T> {
     ///
     /// The filling is of this lane, and the handle is counted.
     pub(super) unsafe fn far_publish(self, begun: Begun<'_, T, Far>) -> Key {
+        threads::handle_ended();
         // SAFETY: as of a release.
         let (key, is_last) =
             unsafe { self.locked(|turn, joint| (turn.publish(begun), joint.leave())) };
@@ -329,6 +333,7 @@ impl<T: Clear> Post<'_, T> {
     ///
     /// The filling is of this lane, and the handle is counted.
     pub(super) unsafe fn far_give_back(self, begun: Begun<'_, T, Far>) {
+        threads::handle_ended();
         let _user = User(self);
         super::give_back::give_back(begun, |begun, is_empty| {
             // SAFETY: as of a release.

@@ -121,7 +121,7 @@ impl<T: Clear> Room<T> {
                     created => return created,
                 }
             }
-            if self.lends(count) && self.share_one() {
+            if self.shares_home_first(count) && self.share_one() {
                 continue;
             }
             match self.grow(count) {

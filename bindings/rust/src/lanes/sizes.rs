@@ -58,7 +58,7 @@ fn places_of(shape: Shape) -> u32 {
 }
 
 /// Whether lanes that nobody has are lent before a segment behind so many is opened.
-pub(super) fn lends_behind(count: usize) -> bool {
+pub(super) fn shares_home_behind(count: usize) -> bool {
     count >= LENT_BEHIND
 }
 

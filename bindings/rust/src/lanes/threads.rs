@@ -5,6 +5,7 @@ use crate::sync::{thread_local, Counter};
 use std::cell::{Cell, RefCell};
 use std::mem;
 use std::ptr::NonNull;
+use std::sync::atomic::{AtomicU64, Ordering};
 
 /// A lane of a pool that the thread has.
 struct Entry {
@@ -18,7 +19,8 @@ struct Kept(RefCell<Vec<Entry>>);
 
 impl Drop for Kept {
     fn drop(&mut self) {
-        ENDED.set(true);
+        LENT.set(ENDED);
+        LENDER.set(0);
         LAST.with(|all| all.iter().for_each(|one| one.set(NONE)));
         for Entry { number, homes, .. } in self.0.take() {
             homes.leave(number);
@@ -32,14 +34,37 @@ const POOLS: usize = 8;
 /// An entry of no pool.
 const NONE: (u64, NonNull<()>) = (0, NonNull::dangling());
 
+/// In the number of an entry's pool: the thread lends its lane.
+const LENDS: u64 = 1 << 63;
+
+/// In `LENT`: the thread lends no lane; and it has left its lanes.
+const NONE_LENT: u64 = 0;
+const ENDED: u64 = u64::MAX;
+
+/// In `HELD_BACK`: a call is under way in which code of others runs, and which has the thread's lane to itself before and after.
+const WITHIN: u32 = 1 << 16;
+
+/// In `HELD_BACK`, below that: how many handles are to end.
+const TO_END: u32 = WITHIN - 1;
+
+/// A thread lends no lane before so many owned handles have ended there, and never waits for more.
+const FIRST_HELD_BACK: u32 = 16;
+const MOST_HELD_BACK: u32 = 4096;
+
 thread_local! {
     /// By the last digit of a pool's number: the pool, and where the seat stands of the thread's lane that had a place last. The number
-    /// with each bit turned over, where it found none, and shares.
+    /// with each bit turned over, where it found none, and shares; with one more, where it lends its lane.
     static LAST: [Cell<(u64, NonNull<()>)>; POOLS] = const { [const { Cell::new(NONE) }; POOLS] };
     /// Likewise: the pool, and the number of the shared lane that the thread called last.
     static LAST_SHARED: [Cell<(u64, u32)>; POOLS] = const { [const { Cell::new((0, 0)) }; POOLS] };
-    /// Whether the thread has left its lanes.
-    static ENDED: Cell<bool> = const { Cell::new(false) };
+    /// The pool of which the thread lends its lane: one at a time. Or that it lends none, or has left its lanes.
+    static LENT: Cell<u64> = const { Cell::new(NONE_LENT) };
+    /// How many owned handles are to end on the thread before it lends a lane again. (It may be that they end elsewhere.)
+    static HELD_BACK: Cell<u32> = const { Cell::new(FIRST_HELD_BACK) };
+    /// How many of its calls owned handles have hindered since it left a lane to one.
+    static HINDERED: Cell<u32> = const { Cell::new(0) };
+    /// A number of the thread's own, by which it lends lanes; 0 before and after.
+    static LENDER: Cell<u64> = const { Cell::new(0) };
     /// Which of the shared lanes is the thread's first choice.
     static TURN: Cell<u32> = const { Cell::new(0) };
     static KEPT: Kept = const { Kept(RefCell::new(Vec::new())) };
@@ -89,7 +114,139 @@ pub(super) fn unset_last_shared(pool: u64) {
 /// Whether the thread has left its lanes: it runs the last drops of its thread-locals.
 #[inline(always)]
 pub(super) fn has_ended() -> bool {
-    ENDED.get()
+    LENT.get() == ENDED
+}
+
+/// Whether it has, or lends one of them.
+#[inline(always)]
+pub(super) fn is_apart() -> bool {
+    LENT.get() != NONE_LENT
+}
+
+/// Whether it lends its lane of this pool, as far as it knows.
+pub(super) fn lends(pool: u64) -> bool {
+    LENT.get() == pool
+}
+
+/// The thread lends its lane of this pool, which it has alone, and knows. It lends no other.
+#[inline(always)]
+pub(super) fn lend(pool: u64) {
+    LENT.set(pool);
+    LAST.with(|all| {
+        let entry = &all[pool as usize % POOLS];
+        entry.set((pool | LENDS, entry.get().1));
+    });
+}
+
+/// The lane that the thread lends is its own again.
+#[inline(always)]
+pub(super) fn take_back() {
+    let pool = LENT.replace(NONE_LENT);
+    debug_assert_ne!(pool, NONE_LENT, "the thread lends a lane");
+    LAST.with(|all| {
+        let entry = &all[pool as usize % POOLS];
+        if entry.get().0 == pool | LENDS {
+            entry.set((pool, entry.get().1));
+        }
+    });
+}
+
+/// The thread has no lane of a pool that is closed any more, and lends none.
+pub(super) fn forget_closed() {
+    // (Where the thread ends it lends none.)
+    let _ = KEPT.try_with(Kept::forget_closed);
+}
+
+/// The handle to which the thread lends a lane has that by lock from now on, also here.
+fn lend_no_more() {
+    LENT.set(NONE_LENT);
+    be_lender();
+}
+
+/// A number of the thread's own, from 1 on; 0 as long as it lent no lane.
+#[inline(always)]
+pub(super) fn lender() -> u64 {
+    LENDER.get()
+}
+
+/// The same, where it lends one.
+#[inline(always)]
+pub(super) fn lender_from_now_on() -> u64 {
+    if LENDER.get() == 0 {
+        be_lender();
+    }
+    LENDER.get()
+}
+
+/// Whether the thread may lend a lane now, if it lends none.
+#[inline(always)]
+pub(super) fn may_lend() -> bool {
+    HELD_BACK.get() == 0
+}
+
+/// An owned handle ended on the thread.
+#[inline(always)]
+pub(super) fn handle_ended() {
+    let held_back = HELD_BACK.get();
+    if held_back & TO_END != 0 {
+        HELD_BACK.set(held_back - 1);
+    }
+}
+
+/// The thread has another number.
+#[cold]
+fn be_lender() {
+    // (Not the explorer's: which number it is makes no difference.)
+    static NEXT: AtomicU64 = AtomicU64::new(1);
+    LENDER.set(NEXT.fetch_add(1, Ordering::Relaxed));
+}
+
+/// The thread lends no lane before so many more owned handles have ended there.
+pub(super) fn hold_back(more: u32) {
+    let held_back = HELD_BACK.get();
+    let to_end = (held_back & TO_END) + more;
+    HELD_BACK.set(held_back & !TO_END | to_end.min(MOST_HELD_BACK));
+}
+
+/// A lane that the thread lends hinders one of its calls. How many there were.
+pub(super) fn hinder() -> u32 {
+    HINDERED.set(HINDERED.get().saturating_add(1));
+    HINDERED.get()
+}
+
+/// As a thread that lends no lane, before so many owned handles have ended there.
+#[cfg(pardz_explore)]
+pub fn lends_after(handles: u32) {
+    lend_no_more();
+    HELD_BACK.set(handles);
+    HINDERED.set(0);
+}
+
+/// Nothing holds the thread back that lends.
+#[cfg(pardz_explore)]
+pub fn lends_still() {
+    HELD_BACK.set(0);
+}
+
+/// Code of others runs within a call that has the thread's lane to itself before and after: until this is dropped the thread lends none.
+pub(super) struct Within(());
+
+impl Within {
+    pub(super) fn new() -> Within {
+        HELD_BACK.set(HELD_BACK.get() + WITHIN);
+        Within(())
+    }
+}
+
+impl Drop for Within {
+    fn drop(&mut self) {
+        HELD_BACK.set(HELD_BACK.get() - WITHIN);
+    }
+}
+
+/// Whether such a call is under way.
+pub(super) fn is_within() -> bool {
+    HELD_BACK.get() >= WITHIN
 }
 
 /// The lane of a pool that the thread has.
@@ -108,9 +265,7 @@ pub(super) fn kept(pool: u64) -> Option<u32> {
 pub(super) fn keep(pool: u64, number: Number, homes: &Counted<Homes>) -> Result<(), Number> {
     let mut number = Some(number);
     let kept = KEPT.try_with(|kept| {
-        while let Some(closed) = kept.closed() {
-            drop(closed);
-        }
+        kept.forget_closed();
         let homes = Counted::clone(homes);
         if !kept.has_room() {
             return;
@@ -129,11 +284,29 @@ pub(super) fn keep(pool: u64, number: Number, homes: &Counted<Homes>) -> Result<
     }
 }
 
+/// The thread leaves its lane of a pool, which it lends, and of which it has nothing else.
+pub(super) fn leave(pool: u64) {
+    lend_no_more();
+    LAST.with(|all| all[pool as usize % POOLS].set(NONE));
+    let left = KEPT.try_with(|kept| kept.take(|entry| entry.pool == pool));
+    if let Ok(Some(Entry { number, homes, .. })) = left {
+        homes.leave(number);
+    }
+}
+
 impl Kept {
-    /// Takes out a lane of a pool that is closed.
-    fn closed(&self) -> Option<Entry> {
+    /// Takes out the lanes of pools that are closed.
+    fn forget_closed(&self) {
+        while let Some(Entry { pool, .. }) = self.take(|entry| entry.homes.is_closed()) {
+            if lends(pool) {
+                lend_no_more();
+            }
+        }
+    }
+
+    fn take(&self, is: impl Fn(&Entry) -> bool) -> Option<Entry> {
         let mut entries = self.0.borrow_mut();
-        let at = entries.iter().position(|entry| entry.homes.is_closed())?;
+        let at = entries.iter().position(is)?;
         Some(entries.swap_remove(at))
     }
 

@@ -9,6 +9,9 @@ use std::ptr::NonNull;
 
 /// By which way the calls for a filling or a reference are made.
 pub(crate) trait By<T: Clear>: Copy {
+    /// Whether it stays on the thread of the call, which may make it by a lane that it lends.
+    const STAYS: bool = true;
+
     /// For what a call gives of the segment that was asked.
     fn of(segment: &Segment<T>) -> Self;
 }
@@ -25,7 +28,8 @@ pub(crate) struct InHand<T: Clear> {
 #[derive(Clone, Copy)]
 pub(crate) struct OfThread;
 
-/// By an owned handle, which its lane counts: with a lock, and the pool's memory stays meanwhile.
+/// By an owned handle, which its lane counts, or to which that is lent: with a lock, unless its thread lends it; and the pool's memory stays
+/// meanwhile.
 #[derive(Clone, Copy)]
 pub(crate) struct Far;
 
@@ -56,6 +60,8 @@ impl<T: Clear> By<T> for OfThread {
 }
 
 impl<T: Clear> By<T> for Far {
+    const STAYS: bool = false;
+
     #[inline(always)]
     fn of(_: &Segment<T>) -> Far {
         Far
@@ -64,6 +70,9 @@ impl<T: Clear> By<T> for Far {
 
 /// In `start`: the lane is one that threads share. (One word, so that a move reads what was written; its sign, which is told by one look.)
 const SHARED: u64 = 1 << 63;
+
+/// In `start`: of a lane that is lent to an owned handle, whoever has that keeps the pool open meanwhile.
+const KEPT: u64 = 1 << 62;
 
 /// A proved reference, taken apart: its key, where the key's place stands in the lane's pool, and where its object does.
 pub(crate) struct Held<'s, T: Clear, W> {
@@ -75,6 +84,25 @@ pub(crate) struct Held<'s, T: Clear, W> {
 }
 
 impl<'s, T: Clear, W> Held<'s, T, W> {
+    /// What a function out of line answers, by its parts: what is made in line in its stead stays in registers then.
+    #[inline(always)]
+    pub(super) fn by_parts(self) -> Self {
+        let Held {
+            post,
+            key,
+            start,
+            object,
+            way,
+        } = self;
+        Held {
+            post,
+            key,
+            start,
+            object,
+            way,
+        }
+    }
+
     #[inline(always)]
     pub(super) fn new(
         post: Post<'s, T>,
@@ -117,6 +145,18 @@ impl<'s, T: Clear, W> Held<'s, T, W> {
     #[inline(always)]
     pub(super) fn is_shared(&self) -> bool {
         self.start & SHARED != 0
+    }
+
+    /// Of a handle whose pool isn't dropped before it.
+    #[inline(always)]
+    pub(super) fn kept(mut self) -> Self {
+        self.start |= KEPT;
+        self
+    }
+
+    #[inline(always)]
+    pub(super) fn is_kept(&self) -> bool {
+        self.start & KEPT != 0
     }
 
     /// What the proved pool knows of it.
@@ -250,6 +290,18 @@ impl<'s, T: Clear, W> Begun<'s, T, W> {
     #[inline(always)]
     pub(super) fn is_shared(&self) -> bool {
         self.start & SHARED != 0
+    }
+
+    /// Of a handle whose pool isn't dropped before it.
+    #[inline(always)]
+    pub(super) fn kept(mut self) -> Self {
+        self.start |= KEPT;
+        self
+    }
+
+    #[inline(always)]
+    pub(super) fn is_kept(&self) -> bool {
+        self.start & KEPT != 0
     }
 
     /// What the proved pool knows of it, and its object.

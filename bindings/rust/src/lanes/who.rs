@@ -116,6 +116,11 @@ impl Lanes {
         self.home.load(Ordering::Relaxed).count_ones() > self.few
     }
 
+    /// Whether a lane is at home, as of this look.
+    pub(super) fn some_are_home(&self) -> bool {
+        self.home.load(Ordering::Relaxed) != 0
+    }
+
     /// Whether many lanes are some thread's own, or in hand, as of this look: as many as are shared where calls need it.
     pub(super) fn are_many_taken(&self) -> bool {
         let others = self.home.load(Ordering::Relaxed) | self.shared.load(Ordering::Relaxed);
@@ -170,6 +175,8 @@ impl Lanes {
 pub(super) enum Caller<'s, T: Clear> {
     /// It has a lane alone.
     Own(Own<'s, T>),
+    /// It has the lane of this number, and lends that to an owned handle.
+    Lending(u32),
     /// It shares lanes, since all are taken, or since it ends.
     Sharing,
 }
@@ -190,6 +197,9 @@ impl<T: Clear> Room<T> {
     pub(super) fn caller(&self) -> Caller<'_, T> {
         if let Some(own) = self.known() {
             return Caller::Own(own);
+        }
+        if let Some(number) = self.lends() {
+            return Caller::Lending(number);
         }
         if threads::shares(self.id()) && self.lanes.none_is_home() {
             return Caller::Sharing;

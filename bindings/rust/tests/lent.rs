@@ -1,0 +1,123 @@
+//! Lanes that a thread lends to an owned handle: which lane each handle and each call has.
+mod common;
+
+use common::limit;
+use pardz::{Buffer, Key, Pool};
+use std::thread;
+
+/// So many owned handles end on a thread before it lends a lane; and so many more, where one hindered a call or ended elsewhere.
+const FIRST: usize = 16;
+const HINDERED: usize = 64;
+
+/// How many calls a handle hinders, before its lane is left to it.
+const MOST_HINDERED: usize = 1000;
+
+fn growing() -> Pool<Buffer> {
+    Pool::growing().expect("memory")
+}
+
+fn put(pool: &Pool<Buffer>) -> Key {
+    pool.put(b"abc").expect("a place")
+}
+
+fn lane_of(key: Key) -> u64 {
+    u64::from(key) >> 16 & 0xff
+}
+
+/// A key by an owned handle that has ended.
+fn put_owned(pool: &Pool<Buffer>) -> Key {
+    pool.create_owned().expect("a place").publish()
+}
+
+/// The thread's own lane, which it lends from then on.
+fn lending(pool: &Pool<Buffer>) -> u64 {
+    let own = lane_of(put(pool));
+    for _ in 0..FIRST {
+        assert_ne!(lane_of(put_owned(pool)), own);
+    }
+    assert_eq!(lane_of(put_owned(pool)), own);
+    own
+}
+
+#[test]
+fn a_thread_lends_its_lane_to_one_handle_at_a_time() {
+    let _limit = limit();
+    let pool = growing();
+    let own = lending(&pool);
+    let first = pool.create_owned().expect("a place");
+    let second = pool.create_owned().expect("a place");
+    assert_eq!(lane_of(first.key()), own);
+    assert_ne!(lane_of(second.key()), own);
+    // (Calls meanwhile are by the same lane, under its lock.)
+    let key = put(&pool);
+    assert_eq!(lane_of(key), own);
+    let text = pool.get(key).expect("published");
+    assert!(pool.clear(key));
+    assert_eq!(*text, *b"abc");
+    drop(text);
+    let first = first.publish();
+    let second = second.publish();
+    assert!(pool.get(first).is_some() && pool.get(second).is_some());
+    assert_eq!(lane_of(put(&pool)), own);
+    // Three calls were hindered.
+    for _ in 0..2 * HINDERED {
+        assert_ne!(lane_of(put_owned(&pool)), own);
+    }
+    let ended = (0..2 * HINDERED).find(|_| lane_of(put_owned(&pool)) == own);
+    assert!(ended.is_some());
+    assert_eq!(lane_of(put_owned(&pool)), own);
+}
+
+#[test]
+fn a_lent_lane_comes_back_from_another_thread() {
+    let _limit = limit();
+    let pool = growing();
+    let own = lending(&pool);
+    let key = put(&pool);
+    let text = pool.get_owned(key).expect("published");
+    assert!(thread::spawn(move || *text == *b"abc")
+        .join()
+        .expect("no panic"));
+    for _ in 0..HINDERED {
+        assert_ne!(lane_of(put_owned(&pool)), own);
+    }
+    assert_eq!(lane_of(put_owned(&pool)), own);
+    assert!(pool.clear(key));
+}
+
+#[test]
+fn a_thread_leaves_its_lane_to_a_handle_that_hinders_it() {
+    let _limit = limit();
+    let pool = growing();
+    let own = lending(&pool);
+    let key = put(&pool);
+    let text = pool.get_owned(key).expect("published");
+    let held = pool.get(key).expect("published");
+    for _ in 0..MOST_HINDERED {
+        assert_eq!(*pool.get(key).expect("published"), *b"abc");
+    }
+    // It has a reference of that lane yet.
+    assert_eq!(lane_of(put(&pool)), own);
+    drop(held);
+    drop(pool.get(key));
+    let other = lane_of(put(&pool));
+    assert_ne!(other, own);
+    assert_eq!(*text, *b"abc");
+    drop(text);
+    assert!(pool.clear(key));
+    assert_eq!(lane_of(put(&pool)), other);
+}
+
+#[test]
+fn a_thread_lends_again_behind_a_pool_that_ended() {
+    let _limit = limit();
+    let (pool, other) = (growing(), growing());
+    let own = lane_of(put(&other));
+    lending(&pool);
+    let text = pool.create_owned().expect("a place").downgrade();
+    drop(pool);
+    assert!(thread::spawn(move || text.is_empty())
+        .join()
+        .expect("no panic"));
+    assert_eq!(lane_of(put_owned(&other)), own);
+}
