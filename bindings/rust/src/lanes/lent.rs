@@ -178,7 +178,8 @@ impl<T: Clear> Room<T> {
         let number = self.lends_yet()?;
         threads::hold_back(FOR_NOTHING);
         if threads::hinder() > MOST_HINDERED && self.may_leave(number) {
-            threads::leave(self.id());
+            // SAFETY: so it was looked just now.
+            unsafe { threads::leave(self.id()) };
             return None;
         }
         Some(number)
@@ -193,7 +194,8 @@ impl<T: Clear> Room<T> {
         if self.posts_of(number).any(Post::is_lent) {
             return Some(number);
         }
-        threads::take_back();
+        // SAFETY: no seat of the lane is lent any more.
+        unsafe { threads::take_back() };
         threads::hold_back(FOR_NOTHING);
         None
     }
@@ -233,7 +235,8 @@ struct Guest<'s, T: Clear> {
 impl<T: Clear> Drop for Guest<'_, T> {
     fn drop(&mut self) {
         let is_here = self.post.seat().lent.is_lent_here();
-        self.post.lent_ends(is_here, self.is_kept);
+        // SAFETY: what the handle did is done.
+        unsafe { self.post.lent_ends(is_here, self.is_kept) };
     }
 }
 
@@ -255,10 +258,15 @@ impl<'s, T: Clear> Post<'s, T> {
     }
 
     /// The handle has ended: on the thread that lends the lane, or on another one. With `is_kept` the pool isn't dropped before.
+    ///
+    /// # Safety
+    ///
+    /// So it is, and the handle does nothing more with the lane.
     #[inline(always)]
-    fn lent_ends(self, is_here: bool, is_kept: bool) {
+    unsafe fn lent_ends(self, is_here: bool, is_kept: bool) {
         if is_here {
-            threads::take_back();
+            // SAFETY: the caller's.
+            unsafe { threads::take_back() };
         }
         if is_kept {
             self.seat().lent.end_kept();
@@ -281,7 +289,8 @@ impl<'s, T: Clear> Post<'s, T> {
         };
         // SAFETY: the caller's.
         if unsafe { own.release_only(held) } {
-            self.lent_ends(true, is_kept);
+            // SAFETY: the reference is given back.
+            unsafe { self.lent_ends(true, is_kept) };
         } else {
             finish(self, is_kept);
         }
@@ -301,7 +310,8 @@ impl<'s, T: Clear> Post<'s, T> {
         };
         // SAFETY: the caller's.
         let key = unsafe { own.publish(begun) };
-        self.lent_ends(true, is_kept);
+        // SAFETY: it is published.
+        unsafe { self.lent_ends(true, is_kept) };
         key
     }
 

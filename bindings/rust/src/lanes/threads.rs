@@ -139,8 +139,12 @@ pub(super) fn lend(pool: u64) {
 }
 
 /// The lane that the thread lends is its own again.
+///
+/// # Safety
+///
+/// The handle to which it is lent has ended, but for telling the lane so.
 #[inline(always)]
-pub(super) fn take_back() {
+pub(super) unsafe fn take_back() {
     let pool = LENT.replace(NONE_LENT);
     debug_assert_ne!(pool, NONE_LENT, "the thread lends a lane");
     LAST.with(|all| {
@@ -284,8 +288,12 @@ pub(super) fn keep(pool: u64, number: Number, homes: &Counted<Homes>) -> Result<
     }
 }
 
-/// The thread leaves its lane of a pool, which it lends, and of which it has nothing else.
-pub(super) fn leave(pool: u64) {
+/// The thread leaves its lane of a pool, which it lends.
+///
+/// # Safety
+///
+/// It has nothing else of the lane, and no call further out on the stack has that.
+pub(super) unsafe fn leave(pool: u64) {
     lend_no_more();
     LAST.with(|all| all[pool as usize % POOLS].set(NONE));
     let left = KEPT.try_with(|kept| kept.take(|entry| entry.pool == pool));
