@@ -5,7 +5,7 @@ use std::sync::atomic::{AtomicBool, AtomicUsize, Ordering::SeqCst};
 use std::sync::{Arc, Mutex};
 
 /// More owned handles than end on a thread of a scenario.
-const NEVER: u32 = 1000;
+const NEVER: u64 = 1000;
 
 /// How many objects there are.
 static ALIVE: AtomicUsize = AtomicUsize::new(0);

@@ -2,12 +2,16 @@
 mod common;
 
 use common::limit;
-use pardz::{Buffer, Key, Pool};
+use pardz::{Buffer, Clear, Key, Pool};
+use std::cell::Cell;
 use std::thread;
 
 /// So many owned handles end on a thread before it lends a lane; and so many more, where one hindered a call or ended elsewhere.
 const FIRST: usize = 16;
 const HINDERED: usize = 64;
+
+/// A thread waits for so many handles at most.
+const MOST_HELD_BACK: usize = 4096;
 
 /// How many calls a handle hinders, before its lane is left to it.
 const MOST_HINDERED: usize = 1000;
@@ -106,6 +110,15 @@ fn a_thread_leaves_its_lane_to_a_handle_that_hinders_it() {
     drop(text);
     assert!(pool.clear(key));
     assert_eq!(lane_of(put(&pool)), other);
+    // The next one gets its lane as late.
+    let lends = |_: &usize| lane_of(put_owned(&pool)) == other;
+    assert!((0..MOST_HELD_BACK + HINDERED).any(|at| lends(&at)));
+    let key = put(&pool);
+    let _filling = pool.create_owned().expect("a place");
+    for _ in 0..2 {
+        assert!(pool.get(key).is_some());
+    }
+    assert_eq!(lane_of(put(&pool)), other);
 }
 
 #[test]
@@ -120,4 +133,44 @@ fn a_thread_lends_again_behind_a_pool_that_ended() {
         .join()
         .expect("no panic"));
     assert_eq!(lane_of(put_owned(&other)), own);
+}
+
+thread_local! {
+    /// Pools that are called when an object is made.
+    static CALLED: Cell<&'static [Pool<Caller>]> = const { Cell::new(&[]) };
+}
+
+/// An object whose making calls pools.
+struct Caller;
+
+impl Default for Caller {
+    fn default() -> Caller {
+        for pool in CALLED.take() {
+            assert!(pool.clear(pool.create().expect("a place").publish()));
+        }
+        Caller
+    }
+}
+
+impl Clear for Caller {
+    fn clear(&mut self) {}
+}
+
+/// They take the thread's notes of the pool that makes it, since it has notes of eight alone.
+#[test]
+fn a_pool_is_called_while_another_one_makes_an_object() {
+    let _limit = limit();
+    let others: &'static [Pool<Caller>] =
+        Vec::from_iter((0..16).map(|_| Pool::growing().expect("memory"))).leak();
+    let pool = Pool::<Caller>::growing().expect("memory");
+    let publish = || pool.create().expect("a place").publish();
+    let own = lane_of(publish());
+    let end_owned = || lane_of(pool.create_owned().expect("a place").publish());
+    assert!((0..FIRST).all(|_| end_owned() != own));
+    CALLED.set(others);
+    assert_eq!(end_owned(), own);
+    assert!(CALLED.take().is_empty(), "an object was made");
+    let key = publish();
+    assert_eq!((lane_of(key), pool.len()), (own, 3 + FIRST));
+    assert!(pool.get(key).is_some() && others.iter().all(Pool::is_empty));
 }

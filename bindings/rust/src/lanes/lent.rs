@@ -16,8 +16,8 @@ use std::ptr::NonNull;
 
 /// How many more owned handles are to end on a thread before it lends a lane again: where one was asked for while another one has the lane;
 /// and where that hindered a call, ended on another thread, or found the lane full, or the thread has none.
-const WHILE_LENT: u32 = 8;
-const FOR_NOTHING: u32 = 64;
+const WHILE_LENT: u64 = 8;
+const FOR_NOTHING: u64 = 64;
 
 /// How many calls of its thread a handle may hinder, before the thread leaves the lane to it.
 const MOST_HINDERED: u32 = if cfg!(pardz_explore) { 1 } else { 1000 };

@@ -42,14 +42,14 @@ const NONE_LENT: u64 = 0;
 const ENDED: u64 = u64::MAX;
 
 /// In `HELD_BACK`: a call is under way in which code of others runs, and which has the thread's lane to itself before and after.
-const WITHIN: u32 = 1 << 16;
+const WITHIN: u64 = 1 << 32;
 
 /// In `HELD_BACK`, below that: how many handles are to end.
-const TO_END: u32 = WITHIN - 1;
+const TO_END: u64 = WITHIN - 1;
 
 /// A thread lends no lane before so many owned handles have ended there, and never waits for more.
-const FIRST_HELD_BACK: u32 = 16;
-const MOST_HELD_BACK: u32 = 4096;
+const FIRST_HELD_BACK: u64 = 16;
+const MOST_HELD_BACK: u64 = 4096;
 
 thread_local! {
     /// By the last digit of a pool's number: the pool, and where the seat stands of the thread's lane that had a place last. The number
@@ -60,7 +60,7 @@ thread_local! {
     /// The pool of which the thread lends its lane: one at a time. Or that it lends none, or has left its lanes.
     static LENT: Cell<u64> = const { Cell::new(NONE_LENT) };
     /// How many owned handles are to end on the thread before it lends a lane again. (It may be that they end elsewhere.)
-    static HELD_BACK: Cell<u32> = const { Cell::new(FIRST_HELD_BACK) };
+    static HELD_BACK: Cell<u64> = const { Cell::new(FIRST_HELD_BACK) };
     /// How many of its calls owned handles have hindered since it left a lane to one.
     static HINDERED: Cell<u32> = const { Cell::new(0) };
     /// A number of the thread's own, by which it lends lanes; 0 before and after.
@@ -128,13 +128,22 @@ pub(super) fn lends(pool: u64) -> bool {
     LENT.get() == pool
 }
 
-/// The thread lends its lane of this pool, which it has alone, and knows. It lends no other.
+/// The thread lends its lane of this pool, which it has alone. It lends no other.
 #[inline(always)]
 pub(super) fn lend(pool: u64) {
     LENT.set(pool);
+    mark(pool, pool | LENDS);
+}
+
+/// An entry with the first number has the other one from now on. (An entry of another pool stays: code that ran meanwhile may have called that.)
+#[inline(always)]
+fn mark(from: u64, to: u64) {
     LAST.with(|all| {
-        let entry = &all[pool as usize % POOLS];
-        entry.set((pool | LENDS, entry.get().1));
+        let entry = &all[from as usize % POOLS];
+        let (last, at) = entry.get();
+        if last == from {
+            entry.set((to, at));
+        }
     });
 }
 
@@ -147,12 +156,7 @@ pub(super) fn lend(pool: u64) {
 pub(super) unsafe fn take_back() {
     let pool = LENT.replace(NONE_LENT);
     debug_assert_ne!(pool, NONE_LENT, "the thread lends a lane");
-    LAST.with(|all| {
-        let entry = &all[pool as usize % POOLS];
-        if entry.get().0 == pool | LENDS {
-            entry.set((pool, entry.get().1));
-        }
-    });
+    mark(pool | LENDS, pool);
 }
 
 /// The thread has no lane of a pool that is closed any more, and lends none.
@@ -206,7 +210,7 @@ fn be_lender() {
 }
 
 /// The thread lends no lane before so many more owned handles have ended there.
-pub(super) fn hold_back(more: u32) {
+pub(super) fn hold_back(more: u64) {
     let held_back = HELD_BACK.get();
     let to_end = (held_back & TO_END) + more;
     HELD_BACK.set(held_back & !TO_END | to_end.min(MOST_HELD_BACK));
@@ -220,7 +224,7 @@ pub(super) fn hinder() -> u32 {
 
 /// As a thread that lends no lane, before so many owned handles have ended there.
 #[cfg(pardz_explore)]
-pub fn lends_after(handles: u32) {
+pub fn lends_after(handles: u64) {
     lend_no_more();
     HELD_BACK.set(handles);
     HINDERED.set(0);
@@ -295,6 +299,7 @@ pub(super) fn keep(pool: u64, number: Number, homes: &Counted<Homes>) -> Result<
 /// It has nothing else of the lane, and no call further out on the stack has that.
 pub(super) unsafe fn leave(pool: u64) {
     lend_no_more();
+    HINDERED.set(0);
     LAST.with(|all| all[pool as usize % POOLS].set(NONE));
     let left = KEPT.try_with(|kept| kept.take(|entry| entry.pool == pool));
     if let Ok(Some(Entry { number, homes, .. })) = left {
