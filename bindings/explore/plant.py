@@ -6,7 +6,7 @@ usage: plant.py LIST.. [--search] [--jobs N] [--only NUMBER..]
 A list has for each fault the file (`c/` in front of one of the C library's), what is wrong then, a text that stands there once (`-`), of which what stands in « » is replaced, or
 all, by what stands there then (`+`), and what finds it (`=`): `explore SCENARIO`, `old SCENARIO` (the same, where a look may find an old value), `test FILE NAME`, `address FILE NAME` (a test under AddressSanitizer), `misuse NUMBER HEADING` (lines of misuse.rs
 that the compiler must refuse, counted from 1 behind the heading that begins so). White space doesn't count. All are planted in one copy, each by a branch on the number in
-PLANTED; one whose text can't be branched on is marked `alone`, and is built by itself.
+PLANTED, but for those whose texts overlap without that one has the other in it: these go to a further copy.
 
 Without a fault each of those passes. With one it fails: a test by an assertion, not by a hang. --search tries all of them, and tells the first that finds a fault.
 """
@@ -54,7 +54,7 @@ SCHEDULES_WITHOUT_A_FAULT = 200
 
 
 
-class Fault(collections.namedtuple("Fault", "number file what old new alone finder")):
+class Fault(collections.namedtuple("Fault", "number file what old new finder")):
     def is_of_types(self):
         """Whether the compiler alone sees it: such can't be branched on, and tell of types that don't meet."""
         return self.finder.startswith("misuse ")
@@ -68,10 +68,9 @@ def read_faults(lists):
         for part in re.split(r"\n\s*\n", text.strip()):
             lines = part.strip().split("\n")
             file, what = lines[0].split(": ", 1)
-            alone = file.startswith("alone ")
             take = lambda sign: "\n".join(line[2:] for line in lines[1:] if line[:1] == sign)
             number = len(faults) + 1
-            faults.append(Fault(number, file.removeprefix("alone "), what, take("-"), take("+"), alone, take("=")))
+            faults.append(Fault(number, file, what, take("-"), take("+"), take("=")))
     return faults
 
 
@@ -86,13 +85,38 @@ def place_of(fault, text):
     return found[0].span(1)
 
 
-def branch(fault, old):
-    """The text with a branch on the fault."""
+def branch(fault, old, inside):
+    """A text with a branch on the fault. `inside` is the text with the branches that stand in it."""
     if not old:
-        return f"if crate::planted({fault.number}) {{ {fault.new} }} "
+        return f"if crate::planted({fault.number}) {{ {fault.new} }} {inside}"
     if old.rstrip()[-1] in ";}" and not old.lstrip().startswith("|"):
-        return f"if crate::planted({fault.number}) {{ {fault.new} }} else {{ {old} }}"
-    return f"(if crate::planted({fault.number}) {{ {fault.new} }} else {{ {old} }})"
+        return f"if crate::planted({fault.number}) {{ {fault.new} }} else {{ {inside} }}"
+    return f"(if crate::planted({fault.number}) {{ {fault.new} }} else {{ {inside} }})"
+
+
+def overlaps(one, other):
+    """Whether two spans overlap without that one is in the other."""
+    (start, end), (first, last) = sorted([one, other])
+    return start < first < end < last
+
+
+def is_within(span, outer):
+    """Whether a span is in another one. One of no width is outside at its ends."""
+    return span != outer and outer[0] <= span[0] and span[1] <= outer[1] and (span[0] < span[1] or outer[0] < span[0] < outer[1])
+
+
+def planted_text(text, start, end, spans):
+    """The text from `start` to `end` with a branch on each fault of the spans that stand there."""
+    made, at = "", start
+    for span in sorted(spans):
+        if any(is_within(span, outer) for outer in spans):
+            continue
+        old = text[slice(*span)]
+        planted = planted_text(text, *span, {inner: some for inner, some in spans.items() if is_within(inner, span)})
+        for fault in spans[span]:
+            planted = branch(fault, old, planted)
+        made, at = made + text[at : span[0]] + planted, span[1]
+    return made + text[at:end]
 
 
 # Where the sources stand, in bindings and in each copy: of the C library those of files with this in front.
@@ -105,8 +129,8 @@ def source_of(file, folder):
     return os.path.join(folder, SOURCES[front], file.removeprefix(front))
 
 
-def plant(faults, folder, always):
-    """Plants those that can be planted together, each with a branch, or `always`. Answers the others."""
+def plant(faults, folder):
+    """Plants those that can be planted together, each with a branch, but for those that the compiler finds. Answers the others."""
     left, by_file = [], collections.defaultdict(list)
     for fault in faults:
         by_file[fault.file].append(fault)
@@ -116,17 +140,16 @@ def plant(faults, folder, always):
             text = file.read()
         spans = {}
         for fault in some:
-            start, end = place_of(fault, text)
-            meets = [span for span in spans if (always or span != (start, end)) and span[0] < end and start < span[1]]
-            if fault.alone or meets:
+            here = place_of(fault, text)
+            if any(overlaps(here, span) for span in spans):
                 left.append(fault)
             else:
-                spans.setdefault((start, end), []).append(fault)
-        for (start, end), here in sorted(spans.items(), reverse=True):
-            new = text[start:end]
-            for fault in here:
-                new = fault.new if always else branch(fault, new)
-            text = text[:start] + new + text[end:]
+                spans.setdefault(here, []).append(fault)
+        if some[0].is_of_types():
+            for (start, end), (fault,) in sorted(spans.items(), reverse=True):
+                text = text[:start] + fault.new + text[end:]
+        else:
+            text = planted_text(text, 0, len(text), spans)
         with open(path, "w", encoding="utf-8") as file:
             file.write(text)
     return left
@@ -151,9 +174,7 @@ class Build:
 
     def write(self):
         """Plants; answers the faults that need a copy of their own."""
-        one = len(self.faults) == 1 and self.faults[0].alone
-        faults = [fault._replace(alone=False) for fault in self.faults] if one else self.faults
-        left = plant(faults, self.folder, one or faults[0].is_of_types())
+        left = plant(self.faults, self.folder)
         for sources in SOURCES.values():
             with open(os.path.join(self.folder, sources, "lib.rs"), "a", encoding="utf-8") as file:
                 file.write(PLANTED)
@@ -188,7 +209,7 @@ class Build:
         """Builds the C library, for the scenarios."""
         out = os.path.join(self.folder, "libpardz_c.rlib")
         root = os.path.join(self.folder, SOURCES["c/"], "lib.rs")
-        return out, self.rustc("--crate-type=rlib", "--crate-name=pardz_c", *flags, root, "-o", out)
+        return out, self.rustc("--crate-type=rlib", "--crate-name=pardz_c", *QUICK, *flags, root, "-o", out)
 
     def make_scenarios(self, _):
         wrong = None
@@ -216,7 +237,7 @@ class Build:
         library, wrong = self.crate("addresses", flags)
         out = os.path.join(self.folder, "address_" + name)
         source = os.path.join(self.rust, "tests", name + ".rs")
-        return out, wrong or self.rustc("--test", *flags, f"--extern=pardz={library}", source, "-o", out)
+        return out, wrong or self.rustc("--test", *QUICK, *flags, f"--extern=pardz={library}", source, "-o", out)
 
     def misuse(self, number, heading):
         """What the compiler says where it refuses some lines."""
@@ -334,7 +355,7 @@ def plant_all(folder, faults, words):
     good, left, copies = 0, faults, 0
     while left:
         of_types = [fault for fault in left if fault.is_of_types()]
-        together = [fault for fault in left if not fault.alone and not fault.is_of_types()] or of_types or left[:1]
+        together = [fault for fault in left if not fault.is_of_types()] or of_types
         build = Build(os.path.join(folder, str(copies)), together)
         apart = build.write()
         here = [fault for fault in together if fault not in apart]
@@ -347,7 +368,7 @@ def plant_all(folder, faults, words):
 
 
 def judge_all(build, faults, words):
-    finders = sorted({fault.finder for fault in faults if fault.finder and not fault.alone and not fault.is_of_types()})
+    finders = sorted({fault.finder for fault in faults if fault.finder and not fault.is_of_types()})
     for finder in [] if words.search else finders:
         said = run(build, finder, 0)
         if said:
