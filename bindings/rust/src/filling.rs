@@ -108,12 +108,12 @@ impl<'l, T: Clear> Filling<'l, T> {
 /// ```
 #[must_use = "a filling that is dropped isn't published"]
 pub struct PoolFilling<'p, T: Clear = Buffer> {
-    begun: Spent<Begun<'p, T, OfThread>>,
+    begun: Spent<Begun<'p, T, OfThread<T>>>,
 }
 
 impl<'p, T: Clear> PoolFilling<'p, T> {
     #[inline(always)]
-    pub(crate) fn new(begun: Spent<Begun<'p, T, OfThread>>) -> PoolFilling<'p, T> {
+    pub(crate) fn new(begun: Spent<Begun<'p, T, OfThread<T>>>) -> PoolFilling<'p, T> {
         PoolFilling { begun }
     }
 

@@ -81,12 +81,12 @@ impl<'l, T: Clear> Ref<'l, T> {
 /// # Ok::<(), Box<dyn std::error::Error>>(())
 /// ```
 pub struct PoolRef<'p, T: Clear = Buffer> {
-    held: Spent<Held<'p, T, OfThread>>,
+    held: Spent<Held<'p, T, OfThread<T>>>,
 }
 
 impl<'p, T: Clear> PoolRef<'p, T> {
     #[inline(always)]
-    pub(crate) fn new(held: Spent<Held<'p, T, OfThread>>) -> PoolRef<'p, T> {
+    pub(crate) fn new(held: Spent<Held<'p, T, OfThread<T>>>) -> PoolRef<'p, T> {
         PoolRef { held }
     }
 

@@ -233,17 +233,18 @@ fn give_back_far<T: Clear>(post: Post<'static, T>, words: (NonNull<T>, Key, u64)
 impl<T: Clear> Spend for Held<'static, T, Far> {
     #[inline(always)]
     fn spend(self) {
-        release(self.post(), self.into_words());
+        let (post, (object, key, start)) = (self.post(), self.into_words());
+        release(post, object, key, start);
     }
 }
 
 /// The drop of the last handle of a reference. (Apart, and by its words, as of a call of the pool.)
 #[inline(never)]
-fn release<T: Clear>(post: Post<'static, T>, words: (NonNull<T>, Key, u64)) {
+fn release<T: Clear>(post: Post<'static, T>, object: NonNull<T>, key: Key, start: u64) {
     // SAFETY: they are those of a reference, which is spent here.
-    let held = unsafe { Held::from_words(post, words, Far) };
+    let held = unsafe { Held::from_words(post, (object, key, start), Far) };
     if held.is_shared() {
-        release_shared(post, held.into_words());
+        release_shared(post, object, key, start);
     } else {
         // SAFETY: it is of its own lane, which is lent to it.
         unsafe { post.lent_release(held) };
@@ -252,9 +253,9 @@ fn release<T: Clear>(post: Post<'static, T>, words: (NonNull<T>, Key, u64)) {
 
 /// The same of a shared lane.
 #[inline(never)]
-fn release_shared<T: Clear>(post: Post<'static, T>, words: (NonNull<T>, Key, u64)) {
+fn release_shared<T: Clear>(post: Post<'static, T>, object: NonNull<T>, key: Key, start: u64) {
     // SAFETY: they are those of a reference, which is spent here.
-    let held = unsafe { Held::from_words(post, words, Far) };
+    let held = unsafe { Held::from_words(post, (object, key, start), Far) };
     // SAFETY: it is of its own lane, and is a user of it.
     unsafe { post.far_release(held) };
 }

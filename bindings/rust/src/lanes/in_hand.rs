@@ -266,23 +266,32 @@ impl<'l, T: Clear> Held<'l, T, InHand<T>> {
 impl<T: Clear> Spend for Held<'_, T, InHand<T>> {
     #[inline(always)]
     fn spend(self) {
-        if self.way.is_elsewhere {
-            return release_elsewhere(self.post(), self.into_words());
+        let (post, way, (object, key, start)) = (self.post(), self.way, self.into_words());
+        if way.is_elsewhere {
+            return release_elsewhere(post, object, key, start);
         }
         // SAFETY: it is its segment.
-        let near = unsafe { Near::new(self.post(), self.way.segment) };
-        // SAFETY: a hand gave it, and is borrowed.
-        let own = unsafe { Own::of(near) };
-        // SAFETY: it is of its own lane.
-        unsafe { own.release(self) };
+        let near = unsafe { Near::new(post, way.segment) };
+        release(near, object, key, start);
     }
+}
+
+/// The drop of a reference. (Apart and by its words, so that a reference whose address isn't told stays in registers.)
+#[inline(never)]
+fn release<T: Clear>(near: Near<'_, T>, object: NonNull<T>, key: Key, start: u64) {
+    let (post, way) = (near.post(), InHand::of(near.segment()));
+    // SAFETY: they are those of a reference, which is spent here.
+    let held = unsafe { Held::from_words(post, (object, key, start), way) };
+    // SAFETY: a hand gave it, and is borrowed; it is of its own lane.
+    unsafe { Own::of(near).release(held) };
 }
 
 /// Gives back a reference of another segment than the one that was asked.
 #[inline(never)]
-fn release_elsewhere<T: Clear>(post: Post<'_, T>, words: (NonNull<T>, Key, u64)) {
+fn release_elsewhere<T: Clear>(post: Post<'_, T>, object: NonNull<T>, key: Key, start: u64) {
+    let way = InHand::of(post.segment());
     // SAFETY: they are those of a reference, which is spent here.
-    let held = unsafe { Held::from_words(post, words, InHand::of(post.segment())) };
+    let held = unsafe { Held::from_words(post, (object, key, start), way) };
     // SAFETY: a hand gave it, and is borrowed; it is of its own lane.
     unsafe { Own::of(post).release(held) };
 }

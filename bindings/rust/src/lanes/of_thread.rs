@@ -3,11 +3,11 @@ use super::far::FarHeld;
 use super::give_back::give_back;
 use super::own::Own;
 use super::room::Room;
-use super::seat::{Near, Post};
+use super::seat::{Near, Post, Stands};
 use super::segment::Segment;
 use super::shared::NotShared;
 use super::threads::{self, Within};
-use super::token::{Begun, Held, OfThread, Spend, Spent};
+use super::token::{Begun, By, Held, OfThread, Spend, Spent};
 use super::turn::Brought;
 use super::who::Caller;
 use crate::clear::Clear;
@@ -43,14 +43,17 @@ impl<'s, T: Clear> Way<'s, T> {
 ///
 /// As of [`Way::of`].
 #[inline(always)]
-unsafe fn own_at_once<T: Clear>(post: Post<'_, T>, is_shared: bool) -> Option<Own<'_, T>> {
+unsafe fn own_at_once<'s, T: Clear, P: Stands<'s, T>>(
+    at: P,
+    is_shared: bool,
+) -> Option<Own<'s, T, P>> {
     // SAFETY: a thread that isn't apart keeps its lanes, and lends none.
-    (!is_shared && !threads::is_apart()).then(|| unsafe { Own::of(post) })
+    (!is_shared && !threads::is_apart()).then(|| unsafe { Own::of(at) })
 }
 
 impl<T: Clear> Room<T> {
     #[inline(always)]
-    pub(crate) fn create(&self) -> Result<Spent<Begun<'_, T, OfThread>>, CreateError>
+    pub(crate) fn create(&self) -> Result<Spent<Begun<'_, T, OfThread<T>>>, CreateError>
     where
         T: Default,
     {
@@ -62,7 +65,7 @@ impl<T: Clear> Room<T> {
     }
 
     #[inline(never)]
-    fn create_by_caller(&self) -> Result<Begun<'_, T, OfThread>, CreateError>
+    fn create_by_caller(&self) -> Result<Begun<'_, T, OfThread<T>>, CreateError>
     where
         T: Default,
     {
@@ -76,7 +79,7 @@ impl<T: Clear> Room<T> {
     }
 
     /// A create by the lane that the thread lends, where that had a place last; or by a shared one.
-    fn create_by_lending(&self, number: u32) -> Result<Begun<'_, T, OfThread>, CreateError>
+    fn create_by_lending(&self, number: u32) -> Result<Begun<'_, T, OfThread<T>>, CreateError>
     where
         T: Default,
     {
@@ -94,7 +97,7 @@ impl<T: Clear> Room<T> {
         &'s self,
         own: Own<'s, T>,
         brought: Brought<T>,
-    ) -> Result<Begun<'s, T, OfThread>, CreateError>
+    ) -> Result<Begun<'s, T, OfThread<T>>, CreateError>
     where
         T: Default,
     {
@@ -114,7 +117,7 @@ impl<T: Clear> Room<T> {
 
     /// A create by a shared lane.
     #[inline(never)]
-    fn create_by_sharing(&self) -> Result<Begun<'_, T, OfThread>, CreateError>
+    fn create_by_sharing(&self) -> Result<Begun<'_, T, OfThread<T>>, CreateError>
     where
         T: Default,
     {
@@ -130,7 +133,7 @@ impl<T: Clear> Room<T> {
     fn create_further<'s>(
         &'s self,
         own: Option<Own<'s, T>>,
-    ) -> Result<Begun<'s, T, OfThread>, CreateError>
+    ) -> Result<Begun<'s, T, OfThread<T>>, CreateError>
     where
         T: Default,
     {
@@ -147,7 +150,10 @@ impl<T: Clear> Room<T> {
 
     /// A create by the thread's own lane in any segment. Where many threads have one, a further segment is opened rather than that they all
     /// turn to the shared lanes.
-    fn create_by_own<'s>(&'s self, own: Own<'s, T>) -> Result<Begun<'s, T, OfThread>, CreateError>
+    fn create_by_own<'s>(
+        &'s self,
+        own: Own<'s, T>,
+    ) -> Result<Begun<'s, T, OfThread<T>>, CreateError>
     where
         T: Default,
     {
@@ -164,7 +170,7 @@ impl<T: Clear> Room<T> {
     }
 
     #[inline(always)]
-    pub(crate) fn get(&self, key: Key) -> Option<Spent<Held<'_, T, OfThread>>> {
+    pub(crate) fn get(&self, key: Key) -> Option<Spent<Held<'_, T, OfThread<T>>>> {
         let own = match self.known() {
             // SAFETY: it is of this pool.
             Some(own) => unsafe { own.within(self.segment_with(key)?) },
@@ -172,17 +178,17 @@ impl<T: Clear> Room<T> {
         };
         let held = match own {
             Some(own) => own.get(key),
-            None => self.get_by_caller(key),
+            None => self.get_by_caller(key).map(Held::by_parts),
         };
         held.map(Spent::new)
     }
 
     #[inline(never)]
-    fn get_by_caller(&self, key: Key) -> Option<Held<'_, T, OfThread>> {
+    fn get_by_caller(&self, key: Key) -> Option<Held<'_, T, OfThread<T>>> {
         self.try_get(key).unwrap_or_else(GetError::raise)
     }
 
-    pub(crate) fn try_get(&self, key: Key) -> Result<Option<Held<'_, T, OfThread>>, GetError> {
+    pub(crate) fn try_get(&self, key: Key) -> Result<Option<Held<'_, T, OfThread<T>>>, GetError> {
         if self.count() == 0 {
             return Ok(None);
         }
@@ -314,7 +320,7 @@ impl<T: Clear> Room<T> {
     }
 }
 
-impl<'p, T: Clear> Begun<'p, T, OfThread> {
+impl<'p, T: Clear> Begun<'p, T, OfThread<T>> {
     fn way(&self) -> Way<'p, T> {
         // SAFETY: a call of the pool by this thread gave it, and it stays on its thread.
         unsafe { Way::of(self.post(), self.is_shared()) }
@@ -322,8 +328,10 @@ impl<'p, T: Clear> Begun<'p, T, OfThread> {
 
     #[inline(always)]
     pub(crate) fn publish(self) -> Key {
+        // SAFETY: it is its segment.
+        let near = unsafe { Near::new(self.post(), self.way.segment) };
         // SAFETY: a call of the pool by this thread gave it, and it stays on its thread.
-        match unsafe { own_at_once(self.post(), self.is_shared()) } {
+        match unsafe { own_at_once(near, self.is_shared()) } {
             // SAFETY: it is of its own lane.
             Some(own) => unsafe { own.publish(self) },
             None => publish_apart(self.post(), self.into_words()),
@@ -334,7 +342,7 @@ impl<'p, T: Clear> Begun<'p, T, OfThread> {
     ///
     /// Where the lane has as many references as it may; nothing is published then.
     #[inline]
-    pub(crate) fn downgrade(self) -> Spent<Held<'p, T, OfThread>> {
+    pub(crate) fn downgrade(self) -> Spent<Held<'p, T, OfThread<T>>> {
         let published = match self.way() {
             // SAFETY: it is of its own lane.
             Way::Own(own) => unsafe { own.downgrade(self) },
@@ -358,7 +366,7 @@ impl<'p, T: Clear> Begun<'p, T, OfThread> {
 #[inline(never)]
 fn publish_apart<T: Clear>(post: Post<'_, T>, words: (NonNull<T>, Key, u64)) -> Key {
     // SAFETY: they are those of a filling, which is spent here.
-    let begun = unsafe { Begun::from_words(post, words, OfThread) };
+    let begun = unsafe { Begun::from_words(post, words, OfThread::of(post.segment())) };
     match begun.way() {
         // SAFETY: it is of its own lane.
         Way::Own(own) => unsafe { own.publish(begun) },
@@ -367,7 +375,7 @@ fn publish_apart<T: Clear>(post: Post<'_, T>, words: (NonNull<T>, Key, u64)) -> 
     }
 }
 
-impl<T: Clear> Spend for Begun<'_, T, OfThread> {
+impl<T: Clear> Spend for Begun<'_, T, OfThread<T>> {
     #[inline(always)]
     fn spend(self) {
         // (By its words: a filling whose address isn't told stays in registers.)
@@ -379,7 +387,7 @@ impl<T: Clear> Spend for Begun<'_, T, OfThread> {
 #[inline(never)]
 fn give_back_of_thread<T: Clear>(post: Post<'_, T>, words: (NonNull<T>, Key, u64)) {
     // SAFETY: they are those of a filling, which is spent here.
-    let begun = unsafe { Begun::from_words(post, words, OfThread) };
+    let begun = unsafe { Begun::from_words(post, words, OfThread::of(post.segment())) };
     give_back(begun, |begun, is_empty| match begun.way() {
         // SAFETY: it is of its own lane.
         Way::Own(own) => unsafe { own.publish_and_clear(begun, is_empty) },
@@ -390,14 +398,14 @@ fn give_back_of_thread<T: Clear>(post: Post<'_, T>, words: (NonNull<T>, Key, u64
     });
 }
 
-impl<'p, T: Clear> Held<'p, T, OfThread> {
+impl<'p, T: Clear> Held<'p, T, OfThread<T>> {
     fn way(&self) -> Way<'p, T> {
         // SAFETY: a call of the pool by this thread gave it, and it stays on its thread.
         unsafe { Way::of(self.post(), self.is_shared()) }
     }
 
     /// One reference more, by a get of the key.
-    pub(crate) fn try_clone(&self) -> Option<Spent<Held<'p, T, OfThread>>> {
+    pub(crate) fn try_clone(&self) -> Option<Spent<Held<'p, T, OfThread<T>>>> {
         let held = match self.way() {
             Way::Own(own) => own.try_get(self.key()),
             // SAFETY: no thread has such a lane alone.
@@ -413,31 +421,37 @@ impl<'p, T: Clear> Held<'p, T, OfThread> {
     }
 }
 
-impl<T: Clear> Spend for Held<'_, T, OfThread> {
+impl<T: Clear> Spend for Held<'_, T, OfThread<T>> {
     #[inline(always)]
     fn spend(self) {
-        release(self.post(), self.into_words());
+        let (post, segment, (object, key, start)) =
+            (self.post(), self.way.segment, self.into_words());
+        // SAFETY: it is its segment.
+        let near = unsafe { Near::new(post, segment) };
+        release(near, object, key, start);
     }
 }
 
 /// The drop of a reference. (Apart, so that a caller with several places where one is dropped has it in none; by its words, so that a
 /// reference whose address isn't told stays in registers.)
 #[inline(never)]
-fn release<T: Clear>(post: Post<'_, T>, words: (NonNull<T>, Key, u64)) {
+fn release<T: Clear>(near: Near<'_, T>, object: NonNull<T>, key: Key, start: u64) {
+    let (post, way) = (near.post(), OfThread::of(near.segment()));
     // SAFETY: they are those of a reference, which is spent here.
-    let held = unsafe { Held::from_words(post, words, OfThread) };
+    let held = unsafe { Held::from_words(post, (object, key, start), way) };
     // SAFETY: a call of the pool by this thread gave it, and it stays on its thread.
-    match unsafe { own_at_once(post, held.is_shared()) } {
+    match unsafe { own_at_once(near, held.is_shared()) } {
         // SAFETY: it is of its own lane.
         Some(own) => unsafe { own.release(held) },
-        None => release_apart(post, held.into_words()),
+        None => release_apart(post, object, key, start),
     }
 }
 
 #[inline(never)]
-fn release_apart<T: Clear>(post: Post<'_, T>, words: (NonNull<T>, Key, u64)) {
+fn release_apart<T: Clear>(post: Post<'_, T>, object: NonNull<T>, key: Key, start: u64) {
+    let way = OfThread::of(post.segment());
     // SAFETY: they are those of a reference, which is spent here.
-    let held = unsafe { Held::from_words(post, words, OfThread) };
+    let held = unsafe { Held::from_words(post, (object, key, start), way) };
     match held.way() {
         // SAFETY: it is of its own lane.
         Way::Own(own) => unsafe { own.release(held) },

@@ -12,7 +12,7 @@ use crate::object::Block;
 use std::marker::PhantomData;
 use std::mem;
 use std::panic::{self, AssertUnwindSafe};
-use std::ptr::NonNull;
+use std::ptr::{self, NonNull};
 use std::thread;
 
 /// The thread has the lane of this number alone, in each segment of the pool.
@@ -263,13 +263,17 @@ impl<'s, T: Clear, P: Stands<'s, T>> Own<'s, T, P> {
         unsafe { Own::of(Near::new(self.post(), NonNull::from(segment))) }
     }
 
-    /// The lane in another segment, if that has so many.
+    /// The lane in this or another segment, if that has so many.
     ///
     /// # Safety
     ///
     /// It is one of the same pool.
     #[inline(always)]
     pub(super) unsafe fn within(self, segment: &'s Segment<T>) -> Option<Own<'s, T, Near<'s, T>>> {
+        if ptr::eq(self.post().segment(), segment) {
+            // SAFETY: it is its segment.
+            return Some(unsafe { self.beside(segment) });
+        }
         let near = segment.near_of(self.post().number())?;
         // SAFETY: who has a lane has it in each segment.
         Some(unsafe { Own::of(near) })

@@ -192,7 +192,7 @@ impl<'s, T: Clear> Post<'s, T> {
     /// A clear of this segment.
     pub(super) fn shared_clear(self, key: Key) -> Result<bool, NotShared> {
         let cleared =
-            self.shared::<OfThread, _>(|turn, joint| (turn.clear(key), taken(turn, joint)));
+            self.shared::<OfThread<T>, _>(|turn, joint| (turn.clear(key), taken(turn, joint)));
         let (cleared, taken) = cleared.ok_or(NotShared)?;
         self.finish(taken);
         Ok(cleared)
@@ -253,7 +253,7 @@ impl<'s, T: Clear> Post<'s, T> {
     pub(super) unsafe fn locked_get(
         self,
         key: Key,
-    ) -> Result<Option<Held<'s, T, OfThread>>, GetError> {
+    ) -> Result<Option<Held<'s, T, OfThread<T>>>, GetError> {
         // SAFETY: the caller's.
         let got = unsafe { self.locked(|turn, joint| get(turn, joint, key)) }?;
         Ok(self.finish_get(got))

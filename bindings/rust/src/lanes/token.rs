@@ -25,8 +25,10 @@ pub(crate) struct InHand<T: Clear> {
 }
 
 /// By a call of the pool: without a lock as long as the thread has the lane, else with it.
-#[derive(Clone, Copy)]
-pub(crate) struct OfThread;
+pub(crate) struct OfThread<T: Clear> {
+    /// (As of one in hand.)
+    pub(super) segment: NonNull<Segment<T>>,
+}
 
 /// By an owned handle, which its lane counts, or to which that is lent: with a lock, unless its thread lends it; and the pool's memory stays
 /// meanwhile.
@@ -42,6 +44,15 @@ impl<T: Clear> Clone for InHand<T> {
 
 impl<T: Clear> Copy for InHand<T> {}
 
+impl<T: Clear> Clone for OfThread<T> {
+    #[inline(always)]
+    fn clone(&self) -> Self {
+        *self
+    }
+}
+
+impl<T: Clear> Copy for OfThread<T> {}
+
 impl<T: Clear> By<T> for InHand<T> {
     #[inline(always)]
     fn of(segment: &Segment<T>) -> InHand<T> {
@@ -52,10 +63,11 @@ impl<T: Clear> By<T> for InHand<T> {
     }
 }
 
-impl<T: Clear> By<T> for OfThread {
+impl<T: Clear> By<T> for OfThread<T> {
     #[inline(always)]
-    fn of(_: &Segment<T>) -> OfThread {
-        OfThread
+    fn of(segment: &Segment<T>) -> OfThread<T> {
+        let segment = NonNull::from(segment);
+        OfThread { segment }
     }
 }
 
@@ -374,9 +386,9 @@ const _: fn() = || {
     impl<V: Clone> Moves<AsClone> for V {}
     // (Of a type that is `Clone` there would be two, and the compiler would not know which.)
     <Held<'static, String, Far> as Moves<_>>::moves();
-    <Held<'static, String, OfThread> as Moves<_>>::moves();
+    <Held<'static, String, OfThread<String>> as Moves<_>>::moves();
     <Held<'static, String, InHand<String>> as Moves<_>>::moves();
     <Begun<'static, String, Far> as Moves<_>>::moves();
-    <Begun<'static, String, OfThread> as Moves<_>>::moves();
+    <Begun<'static, String, OfThread<String>> as Moves<_>>::moves();
     <Begun<'static, String, InHand<String>> as Moves<_>>::moves();
 };
