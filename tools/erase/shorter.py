@@ -6,7 +6,7 @@
 - A look whose answer nobody takes goes (`look`): a load of a word that no step changes.
 - A number that nobody takes goes (`number`): what a shape answers.
 - The room that keeps lanes apart goes (`apart`): each lane of the crate is in a seat, on lines of the cache of its own.
-- Words on inlining are added (`inline`).
+- Words on inlining are added; and a rare function that the source keeps out of line may be copied to its callers (`inline`).
 
 Each is bound to one form of the source, by what its names are defined as. Nearly such a form is refused, or stays as it is.
 """
@@ -91,6 +91,10 @@ class Shorter:
         elif told and always:
             self.counts["written: inline"] += 1
             source.replace(told[0][1], told[0][2], "#[inline(always)]")
+        elif [name for name, *_ in told] == ["cold", "inline"]:
+            # A copy for each unit that is compiled, in whose sight what a caller tells it stays in registers.
+            self.counts["written: inline"] += 1
+            source.replace(told[1][1], told[1][2], "#[inline]")
 
     def alike(self, source, i):
         """`for _ in 0..N { ROW.push_reserved(VALUE); }`: a row of values that are alike, which the shim may have zeroed. Whether it is one,

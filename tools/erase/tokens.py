@@ -355,6 +355,8 @@ class Walk:
             return "inline", i, j + 7
         if self.o[j : j + 4] == word[3:] and self.s[i - 1 : i + 1] == ["inline", "]"]:
             return "inline", i + 1, j + 4
+        if self.s[i - 1 : i + 3] == "inline ( never )".split() and self.o[j] == "]":
+            return "inline", i + 3, j
         if self.o[j : j + 4] == "# [ inline ]".split():
             return "inline", i, j + 4
         return None

@@ -66,7 +66,7 @@ pub(crate) fn clear_and_keep<T: Clear, E: Emptier<T>>(
 /// The same where another lane stepped on the key's word meanwhile: step by step. Away from the call's own path, for
 /// few clears come here.
 #[cold]
-#[inline(never)]
+#[inline]
 fn clear_by_steps_and_keep<T: Clear, E: Emptier<T>>(
     grid: &Grid<T>,
     hand: &mut Hand<T>,

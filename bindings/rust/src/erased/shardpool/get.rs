@@ -150,7 +150,7 @@ pub(crate) fn add_first_reference<T>(
 /// The end of a call whose ENTER missed: its LEAVE, and what follows that. Apart from the call's own path, so that the
 /// hit is likely there.
 #[cold]
-#[inline(never)]
+#[inline]
 pub(crate) fn end_miss<T: Clear, E: Emptier<T>>(
     grid: &Grid<T>,
     hand: &mut Hand<T>,
@@ -191,7 +191,7 @@ impl<T> LaneState<T> {
 
     /// Where the place of a key of the pool stands, by its page.
     #[cold]
-    #[inline(never)]
+    #[inline]
     fn searched(&self, key: u64) -> u32 {
         self.places.start(place_of(key))
     }

@@ -33,7 +33,7 @@ pub(crate) fn finish_if_owed<T: Clear, E: Emptier<T>>(
 /// What the last to leave a marked place does. Away from the calls' own paths: few calls come here, so it takes what
 /// they have at hand, and answers nothing.
 #[cold]
-#[inline(never)]
+#[inline]
 fn finish<T: Clear, E: Emptier<T>>(
     grid: &Grid<T>,
     hand: &mut Hand<T>,
@@ -149,7 +149,7 @@ pub(crate) fn reclaim_place<T: Clear, E: Emptier<T>>(
 /// Hands over the object of a place that gets none any more: an empty one then rests there until the pool is closed.
 /// Apart, for each place comes here once at most.
 #[cold]
-#[inline(never)]
+#[inline]
 fn retire<T: Clear, E: Emptier<T>>(
     grid: &Grid<T>,
     hand: &mut Hand<T>,
