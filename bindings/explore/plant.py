@@ -141,7 +141,8 @@ def plant(faults, folder):
         spans = {}
         for fault in some:
             here = place_of(fault, text)
-            if any(overlaps(here, span) for span in spans):
+            meets = overlaps if not fault.is_of_types() else lambda one, other: one[0] <= other[1] and other[0] <= one[1]
+            if any(meets(here, span) for span in spans):
                 left.append(fault)
             else:
                 spans.setdefault(here, []).append(fault)

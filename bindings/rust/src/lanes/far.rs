@@ -234,17 +234,23 @@ impl<T: Clear> Spend for Held<'static, T, Far> {
     #[inline(always)]
     fn spend(self) {
         let (post, (object, key, start)) = (self.post(), self.into_words());
-        release(post, object, key, start);
+        // SAFETY: they are its words, and it is spent here.
+        unsafe { release(post, object, key, start) };
     }
 }
 
 /// The drop of the last handle of a reference. (Apart, and by its words, as of a call of the pool.)
+///
+/// # Safety
+///
+/// They are the words of a reference of owned handles, which is spent.
 #[inline(never)]
-fn release<T: Clear>(post: Post<'static, T>, object: NonNull<T>, key: Key, start: u64) {
-    // SAFETY: they are those of a reference, which is spent here.
+unsafe fn release<T: Clear>(post: Post<'static, T>, object: NonNull<T>, key: Key, start: u64) {
+    // SAFETY: the caller's.
     let held = unsafe { Held::from_words(post, (object, key, start), Far) };
     if held.is_shared() {
-        release_shared(post, object, key, start);
+        // SAFETY: the caller's.
+        unsafe { release_shared(post, object, key, start) };
     } else {
         // SAFETY: it is of its own lane, which is lent to it.
         unsafe { post.lent_release(held) };
@@ -252,9 +258,18 @@ fn release<T: Clear>(post: Post<'static, T>, object: NonNull<T>, key: Key, start
 }
 
 /// The same of a shared lane.
+///
+/// # Safety
+///
+/// As of `release`.
 #[inline(never)]
-fn release_shared<T: Clear>(post: Post<'static, T>, object: NonNull<T>, key: Key, start: u64) {
-    // SAFETY: they are those of a reference, which is spent here.
+unsafe fn release_shared<T: Clear>(
+    post: Post<'static, T>,
+    object: NonNull<T>,
+    key: Key,
+    start: u64,
+) {
+    // SAFETY: the caller's.
     let held = unsafe { Held::from_words(post, (object, key, start), Far) };
     // SAFETY: it is of its own lane, and is a user of it.
     unsafe { post.far_release(held) };

@@ -268,29 +268,39 @@ impl<T: Clear> Spend for Held<'_, T, InHand<T>> {
     fn spend(self) {
         let (post, way, (object, key, start)) = (self.post(), self.way, self.into_words());
         if way.is_elsewhere {
-            return release_elsewhere(post, object, key, start);
+            // SAFETY: they are its words, and it is spent here.
+            return unsafe { release_elsewhere(post, object, key, start) };
         }
         // SAFETY: it is its segment.
         let near = unsafe { Near::new(post, way.segment) };
-        release(near, object, key, start);
+        // SAFETY: they are its words, and it is spent here.
+        unsafe { release(near, object, key, start) };
     }
 }
 
 /// The drop of a reference. (Apart and by its words, so that a reference whose address isn't told stays in registers.)
+///
+/// # Safety
+///
+/// They are the words of a reference of a hand that is borrowed, which is spent.
 #[inline(never)]
-fn release<T: Clear>(near: Near<'_, T>, object: NonNull<T>, key: Key, start: u64) {
+unsafe fn release<T: Clear>(near: Near<'_, T>, object: NonNull<T>, key: Key, start: u64) {
     let (post, way) = (near.post(), InHand::of(near.segment()));
-    // SAFETY: they are those of a reference, which is spent here.
+    // SAFETY: the caller's.
     let held = unsafe { Held::from_words(post, (object, key, start), way) };
     // SAFETY: a hand gave it, and is borrowed; it is of its own lane.
     unsafe { Own::of(near).release(held) };
 }
 
 /// Gives back a reference of another segment than the one that was asked.
+///
+/// # Safety
+///
+/// As of `release`.
 #[inline(never)]
-fn release_elsewhere<T: Clear>(post: Post<'_, T>, object: NonNull<T>, key: Key, start: u64) {
+unsafe fn release_elsewhere<T: Clear>(post: Post<'_, T>, object: NonNull<T>, key: Key, start: u64) {
     let way = InHand::of(post.segment());
-    // SAFETY: they are those of a reference, which is spent here.
+    // SAFETY: the caller's.
     let held = unsafe { Held::from_words(post, (object, key, start), way) };
     // SAFETY: a hand gave it, and is borrowed; it is of its own lane.
     unsafe { Own::of(post).release(held) };

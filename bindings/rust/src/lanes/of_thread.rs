@@ -428,29 +428,38 @@ impl<T: Clear> Spend for Held<'_, T, OfThread<T>> {
             (self.post(), self.way.segment, self.into_words());
         // SAFETY: it is its segment.
         let near = unsafe { Near::new(post, segment) };
-        release(near, object, key, start);
+        // SAFETY: they are its words, and it is spent here.
+        unsafe { release(near, object, key, start) };
     }
 }
 
 /// The drop of a reference. (Apart, so that a caller with several places where one is dropped has it in none; by its words, so that a
 /// reference whose address isn't told stays in registers.)
+///
+/// # Safety
+///
+/// They are the words of a reference of this thread's, which is spent.
 #[inline(never)]
-fn release<T: Clear>(near: Near<'_, T>, object: NonNull<T>, key: Key, start: u64) {
+unsafe fn release<T: Clear>(near: Near<'_, T>, object: NonNull<T>, key: Key, start: u64) {
     let (post, way) = (near.post(), OfThread::of(near.segment()));
-    // SAFETY: they are those of a reference, which is spent here.
+    // SAFETY: the caller's.
     let held = unsafe { Held::from_words(post, (object, key, start), way) };
     // SAFETY: a call of the pool by this thread gave it, and it stays on its thread.
     match unsafe { own_at_once(near, held.is_shared()) } {
         // SAFETY: it is of its own lane.
         Some(own) => unsafe { own.release(held) },
-        None => release_apart(post, object, key, start),
+        // SAFETY: the caller's.
+        None => unsafe { release_apart(post, object, key, start) },
     }
 }
 
+/// # Safety
+///
+/// As of `release`.
 #[inline(never)]
-fn release_apart<T: Clear>(post: Post<'_, T>, object: NonNull<T>, key: Key, start: u64) {
+unsafe fn release_apart<T: Clear>(post: Post<'_, T>, object: NonNull<T>, key: Key, start: u64) {
     let way = OfThread::of(post.segment());
-    // SAFETY: they are those of a reference, which is spent here.
+    // SAFETY: the caller's.
     let held = unsafe { Held::from_words(post, (object, key, start), way) };
     match held.way() {
         // SAFETY: it is of its own lane.
