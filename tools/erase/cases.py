@@ -116,6 +116,36 @@ fn f(row: &mut Vec<Cell>, hand: &mut u32, count: usize) {{
 }}
 """
 
+EMPTIER = """trait {0}<T> {{
+    fn empty(&mut self, object: &mut T);
+}}
+
+struct InPlace;
+
+impl {0}<u32> for InPlace {{
+    fn empty(&mut self, object: &mut u32) {{
+        f(object);
+    }}
+}}
+
+fn take<E: {0}<u32>>(object: &mut u32, emptier: &mut E) {{
+    {1};
+}}
+
+fn take_in_place(object: &mut u32) {{
+    let mut in_place = InPlace;
+    {2};
+}}
+"""
+EMPTIER_LENT = """fn take<E: {0}<T>>(object: &mut u32, emptier: &mut E) {{
+    emptier.empty(object);
+}}
+"""
+EMPTIER_WRITTEN = """fn take<E: {0}<T>>(object: &mut u32, {1}: E) {{
+    {1}.empty(object);
+}}
+"""
+
 # A line of a function's body, an item or a field that is no form of the sources, and what is said of it.
 REFUSED = [
     ("a proof in a body", "fn f() {\n    prove! { x }\n}\n", 2, "a macro prove!"),
@@ -220,6 +250,19 @@ REFUSED = [
     ("a row, and another that is filled", ROW.format("other", "row"), 10, "a form of reserve"),
     ("a row that is filled otherwise", ROW.format("row", "spare"), 10, "a form of reserve"),
     ("a load at a word named as a look's", LOOK.format("look_word", "lane as usize"), 12, "a load whose answer nobody takes"),
+    (
+        "who is handed what a call takes out, and is kept",
+        EMPTIER.format("Emptier", "let other = emptier", "take(object, &mut in_place)"),
+        14,
+        "a use of who is handed",
+    ),
+    (
+        "one who is written to",
+        EMPTIER.format("Emptier", "*emptier = next(object)", "take(object, &mut in_place)"),
+        14,
+        "a use of who is handed",
+    ),
+    ("one made here, and kept", EMPTIER.format("Emptier", "emptier.empty(object)", "let other = &mut in_place"), 19, "a use of who is handed"),
 ]
 
 # A text of a file that has the look of a form that is written otherwise, and isn't it; and what must be left of it.
@@ -244,6 +287,16 @@ KEPT = [
         "room of this name that is another",
         "const BYTES_APART: usize = 128;\n\nstruct S {\n    unused: [u64; BYTES_APART / 8],\n}\n",
         "unused: [u64; BYTES_APART / 8]",
+    ),
+    (
+        "who is lent to a call of another trait",
+        EMPTIER.format("Taker", "emptier.empty(object)", "take(object, &mut in_place)"),
+        "fn take<E: Taker<u32>>(object: &mut u32, emptier: &mut E) {",
+    ),
+    (
+        "who is lent by the same name",
+        EMPTIER.format("Taker", "emptier.empty(object)", "take(object, &mut in_place)"),
+        "let mut in_place = InPlace;\n    take(object, &mut in_place);",
     ),
     ("a type behind // in a string", 'fn f(alloc: Global) -> u32 {\n    g("//", Vec::new(alloc))\n}\n', "use crate::shim::Vec;"),
 ]
@@ -287,6 +340,8 @@ WRONG = [
         SHAPE.format("grow", "n", "mut ").replace("let _ = shape.grow(n);", ""),
     ),
     ("a value by a call", ALIKE.format("count", "next(hand)"), ALIKE_WRITTEN.format("count", "next(hand)")),
+    ("who is lent to a call of another trait, by value", EMPTIER_LENT.format("Taker"), EMPTIER_WRITTEN.format("Taker", "emptier")),
+    ("another by value", EMPTIER_LENT.replace("emptier", "taker").format("Emptier"), EMPTIER_WRITTEN.format("Emptier", "taker")),
     ("another row without its room", "struct S {\n    words: [u64; BYTES / 8],\n}\n", "struct S {\n    words: [u64; 0],\n}\n"),
 ]
 

@@ -361,6 +361,7 @@ class Eraser(Shorter):
 
     def erase_parts(self, source, item):
         self.attributes(source, item)
+        self.by_value(source, item)
         if item.kind == "fn" and item.name == "fmt":
             self.writer(source, item)
         if item.generics:

@@ -6,7 +6,10 @@
 - A look whose answer nobody takes goes (`look`): a load of a word that no step changes.
 - A number that nobody takes goes (`number`): what a shape answers.
 - The room that keeps lanes apart goes (`apart`): each lane of the crate is in a seat, on lines of the cache of its own.
-- Words on inlining are added; and a rare function that the source keeps out of line may be copied to its callers (`inline`).
+- Words on inlining are added; and a rare function that the source keeps out of line may be copied to its callers, or be one out of which
+  no panic comes (`inline`).
+- Who is handed what a call takes out of a place comes by value (`by_value`): lent, he would be written to memory at each call, and a locked
+  operation waits for all that was written.
 
 Each is bound to one form of the source, by what its names are defined as. Nearly such a form is refused, or stays as it is.
 """
@@ -25,6 +28,11 @@ ALWAYS_INLINE = {
     "shardpool/release": {"release"},
     "shardpool/stores": {"take_own"},
 }
+# Rare functions out of which nothing comes, so that their callers keep no way out ready: a panic in one ends the process, as it does around
+# each call.
+NOTHING_OUT = {"shardpool/reclaim": {"finish"}}
+# The trait of who is handed what a call takes out of a place.
+HANDED = "Emptier"
 NUMBERS = {"u8", "u16", "u32", "u64", "usize"}
 # Signs of a value that is the same each time.
 PLAIN = {"(", ")", "{", "}", ":", ",", "::"}
@@ -95,6 +103,71 @@ class Shorter:
             # A copy for each unit that is compiled, in whose sight what a caller tells it stays in registers.
             self.counts["written: inline"] += 1
             source.replace(told[1][1], told[1][2], "#[inline]")
+            if item.name in NOTHING_OUT.get(f"{source.crate}/{source.module}", ()):
+                self.counts["written: nothing out"] += 1
+                source.insert(next(k for k in range(told[1][2], item.end) if source.at(k) == "fn"), 'extern "C" ')
+
+    def is_handed(self, source, name):
+        """Whether a name is the trait's of who is handed what a call takes out."""
+        home, trait = source.scope.get(name, ("", ""))
+        return home in self.crates and trait == HANDED
+
+    def by_value(self, source, item):
+        """Who is handed what a call takes out is lent to it, called and handed on. By value he is copied, which the trait then asks for: what
+        a call changed in him would be gone, so he has nothing of his own."""
+        if item.kind == "trait" and self.is_handed(source, item.name):
+            source.insert(next(k for k in range(item.start, item.end) if source.at(k) == "{"), ": Copy ")
+        elif item.kind == "struct" and self.is_given(source, item.name):
+            source.insert(item.attributes[-1][2] if item.attributes else item.start, "#[derive(Clone, Copy)]\n")
+        elif item.kind == "fn" and item.body:
+            self.taken_by_value(source, item)
+            self.given_by_value(source, item)
+            return
+        else:
+            return
+        self.counts["written: by value"] += 1
+
+    def is_given(self, source, name):
+        """Whether a name is a type's of which values are handed what calls take out."""
+        all_items = ((other, item) for other in self.sources.values() for item in other.items)
+        impls = {(other.crate, item.name) for other, item in all_items if item.kind == "impl" and self.is_handed(other, item.trait)}
+        return source.scope.get(name) in impls
+
+    def taken_by_value(self, source, item):
+        """`emptier: &mut E`, where `E: Emptier<T>`."""
+        s = source
+        bounds = s.split(item.generics[0] + 1, item.generics[1]) if item.generics else []
+        types = {s.at(a) for a, _ in bounds if s.at(a + 1) == ":" and self.is_handed(s, s.at(a + 2))}
+        for a, b in s.split(*item.parameters):
+            if b - a != 5 or s.words_at(a + 1, 3) != ": & mut" or s.at(a + 4) not in types:
+                continue
+            uses = [k for k in range(*item.body) if s.at(k) == s.at(a)]
+            called = [k for k in uses if s.at(k - 1) in (";", "{", "}") and s.at(k + 1) == "."]
+            self.handed_on(s, [k for k in uses if k not in called], 0)
+            self.counts["written: by value"] += 1
+            s.drop(a + 2, a + 4)
+            if called:
+                s.insert(a, "mut ")
+
+    def given_by_value(self, source, item):
+        """`let mut in_place = InPlace;`, and `&mut in_place` behind it."""
+        s = source
+        for i in range(*item.body):
+            made = re.fullmatch(r"let mut (\w+) = (\w+) ;", s.words_at(i, 6))
+            if made and self.is_given(s, made.group(2)):
+                uses = [k for k in range(i + 6, item.body[1]) if s.at(k) == made.group(1)]
+                self.handed_on(s, uses, 2)
+                self.counts["written: by value"] += 1
+                s.drop(i + 1, i + 2)
+                for k in uses:
+                    s.drop(k - 2, k)
+
+    def handed_on(self, source, uses, words):
+        """Refuses what isn't an argument alone, with so many words in front of it."""
+        for k in uses:
+            lent = source.words_at(k - words, words) in ("", "& mut")
+            if not lent or source.at(k - words - 1) not in ("(", ",") or source.at(k + 1) not in (")", ","):
+                source.refuse(k, "a use of who is handed what a call takes out")
 
     def alike(self, source, i):
         """`for _ in 0..N { ROW.push_reserved(VALUE); }`: a row of values that are alike, which the shim may have zeroed. Whether it is one,

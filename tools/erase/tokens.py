@@ -26,6 +26,9 @@ HOLDS_NONE = {"HeldLease", "Lease", "PhantomData", "Run"}
 # An empty object, and what a type that is `Clear` tells of it.
 FRESH = ["T", "::", "fresh", "(", "alloc", ")"]
 ZEROS = "const ZEROS : bool = false ;"
+# Who empties in place, as the sources make him, and what lets him be copied.
+MADE = "let mut in_place = InPlace ;"
+COPIED = "# [ derive ( Clone , Copy ) ]".split()
 FORGETS = "let _leaked = unsafe { ManuallyDrop :: new_unchecked ( self ) } ; } }".split()
 # The row that a vector becomes, the function that fills it in the source, and where the words stand at which lanes look.
 ASKS = "let ( mut row , lease ) = ( unsafe { reserve ( & alloc , words . as_slice ( ) ) } ) . ok ( ) ? ;"
@@ -294,7 +297,7 @@ class Walk:
     # What may be written otherwise
 
     def rewrite(self, i, j):
-        for rule in (self.comma, self.path, self.words, self.derive, self.inline, self.alike, self.inserted):
+        for rule in (self.comma, self.path, self.words, self.derive, self.inline, self.alike, self.handed, self.inserted):
             step = rule(i, j)
             if step:
                 kind, i, j = step
@@ -359,6 +362,8 @@ class Walk:
             return "inline", i + 3, j
         if self.o[j : j + 4] == "# [ inline ]".split():
             return "inline", i, j + 4
+        if self.o[j : j + 2] == ["extern", '"C"'] and self.starts(i, "fn finish <") and self.s[i - 4 : i] == "( never ) ]".split():
+            return "nothing out", i, j + 2
         return None
 
     def derive(self, i, j):
@@ -393,6 +398,29 @@ class Walk:
             got.append(o[end])
             end += 1
         return ("row of values that are alike", self.close(brace), end) if got == want else None
+
+    def handed(self, i, j):
+        """Who is handed what a call takes out of a place, by value; and what lets him be copied."""
+        s, o = self.s, self.o
+        lent = self.starts(i, "& mut") and o[j : j + 1] == s[i + 2 : i + 3]
+        if lent and s[i - 2 : i] == ["emptier", ":"] and self.is_emptier(i):
+            return "by value", i + 2, j
+        if lent and s[i - 1] in ("(", ",") and self.starts(i + 2, "in_place") and s[i + 3] in (")", ",") and MADE in self.text:
+            return "by value", i + 2, j
+        if self.starts(i - 1, MADE) and o[j] == "in_place":
+            return "by value", i + 1, j
+        if self.starts(i, "emptier : & mut") and o[j : j + 2] == ["mut", "emptier"] and self.is_emptier(i):
+            return "", i, j + 1
+        if o[j : j + 2] == [":", "Copy"] and self.starts(i - 7, "trait Emptier < T : Clear > {"):
+            return "by value", i, j + 2
+        if o[j : j + len(COPIED)] == COPIED and self.starts(i, "pub struct InPlace ;"):
+            return "by value", i, j + len(COPIED)
+        return None
+
+    def is_emptier(self, i):
+        """Whether what stands at i is a function's parameter whose type is an emptier's."""
+        start = max(k for k in range(i) if self.s[k] == "fn") + 2
+        return self.s[start] == "<" and "E : Emptier < T >" in " ".join(self.s[start : self.angles(start)])
 
     def inserted(self, i, j):
         """What the output alone has: what the compiler is asked for."""

@@ -8,24 +8,43 @@ use crate::key::Key;
 use crate::object::{Hooked, Placed};
 use std::ptr::NonNull;
 
-/// For one call of a lane, for this key.
+/// For one call of a lane, for this key. (A copy of him does the same: all that he does is done to the lane.)
 pub(super) struct Emptying<'s, T: Clear> {
-    turn: Turn<'s, T, Post<'s, T>>,
+    post: Post<'s, T>,
     key: Key,
 }
 
-impl<'s, T: Clear> Emptying<'s, T> {
+impl<T: Clear> Clone for Emptying<'_, T> {
     #[inline(always)]
-    pub(super) fn of(turn: Turn<'s, T, Post<'s, T>>, key: Key) -> Self {
-        Emptying { turn, key }
+    fn clone(&self) -> Self {
+        *self
+    }
+}
+
+impl<T: Clear> Copy for Emptying<'_, T> {}
+
+impl<'s, T: Clear> Emptying<'s, T> {
+    /// # Safety
+    ///
+    /// It is used within one call of a turn of this lane, which isn't used otherwise meanwhile.
+    #[inline(always)]
+    pub(super) unsafe fn of(post: Post<'s, T>, key: Key) -> Self {
+        Emptying { post, key }
+    }
+
+    /// The lane, within the call.
+    #[inline(always)]
+    fn turn(&self) -> Turn<'s, T, Post<'s, T>> {
+        // SAFETY: who made the emptier promised that the lane's turn isn't used otherwise.
+        unsafe { Turn::of(self.post) }
     }
 }
 
 impl<T: Clear> Emptier<Placed<T>> for Emptying<'_, T> {
     #[inline(always)]
     fn empty(&mut self, object: &mut Placed<T>) {
-        if self.key.shard() == self.turn.post().number() {
-            self.turn.store().warm = Some(NonNull::from(object));
+        if self.key.shard() == self.post.number() {
+            self.turn().store().warm = Some(NonNull::from(object));
         }
     }
 
@@ -33,7 +52,7 @@ impl<T: Clear> Emptier<Placed<T>> for Emptying<'_, T> {
     #[inline(always)]
     fn retire(&mut self, object: Placed<T>) {
         // SAFETY: it is the object of the key's place, which the call reclaimed.
-        unsafe { self.turn.put_back(self.key, object) };
+        unsafe { self.turn().put_back(self.key, object) };
     }
 }
 
@@ -41,7 +60,7 @@ impl<T: Clear> Emptier<Hooked<T>> for Emptying<'_, T> {
     #[inline(always)]
     fn empty(&mut self, object: &mut Hooked<T>) {
         if let Some(block) = object.unhook() {
-            self.turn.store().taken.push(block);
+            self.turn().store().taken.push(block);
         }
     }
 

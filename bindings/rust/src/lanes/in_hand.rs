@@ -278,12 +278,12 @@ impl<T: Clear> Spend for Held<'_, T, InHand<T>> {
     }
 }
 
-/// The drop of a reference. (Apart and by its words, so that a reference whose address isn't told stays in registers.)
+/// The drop of a reference, by its words, which stay in registers.
 ///
 /// # Safety
 ///
 /// They are the words of a reference of a hand that is borrowed, which is spent.
-#[inline(never)]
+#[inline]
 unsafe fn release<T: Clear>(near: Near<'_, T>, object: NonNull<T>, key: Key, start: u64) {
     let (post, way) = (near.post(), InHand::of(near.segment()));
     // SAFETY: the caller's.

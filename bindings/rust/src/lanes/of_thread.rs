@@ -433,13 +433,13 @@ impl<T: Clear> Spend for Held<'_, T, OfThread<T>> {
     }
 }
 
-/// The drop of a reference. (Apart, so that a caller with several places where one is dropped has it in none; by its words, so that a
-/// reference whose address isn't told stays in registers.)
+/// The drop of a reference, by its words, which stay in registers. (It is small enough for the compiler to copy it to each place where one is
+/// dropped, as long as it makes no more calls than these.)
 ///
 /// # Safety
 ///
 /// They are the words of a reference of this thread's, which is spent.
-#[inline(never)]
+#[inline]
 unsafe fn release<T: Clear>(near: Near<'_, T>, object: NonNull<T>, key: Key, start: u64) {
     let (post, way) = (near.post(), OfThread::of(near.segment()));
     // SAFETY: the caller's.

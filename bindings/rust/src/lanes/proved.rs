@@ -3,9 +3,9 @@
 use super::turn::Call;
 use crate::clear::Clear;
 use crate::erased::keybits::Shape;
-use crate::erased::poolsteps::{stack_word, Whole};
+use crate::erased::poolsteps::{life_at, stack_word, Whole};
 use crate::erased::shardpool::{
-    self, Census, CreateFault, Emptier, Filling, Lane, OpenFault, Pool,
+    self, Census, CreateFault, Emptier, Filling, Lane, OpenFault, Pool, Ref,
 };
 use crate::erased::slotcell;
 use crate::object::{Hooked, Placed, Source, Stored};
@@ -117,12 +117,30 @@ pub(super) fn get<T, O: Stored<T>>(
     pool: &Pool<O>,
     lane: &mut Lane<O>,
     key: u64,
-    emptier: &mut impl Emptier<O>,
+    emptier: impl Emptier<O>,
 ) -> Option<(u32, *mut T)> {
     let proved = pool.get_with(lane, key, emptier)?;
     // SAFETY: the lane has a reference to the key, so that is published.
     let object = unsafe { lane.read(&proved).address() };
     Some((proved.start, object.as_ptr()))
+}
+
+/// A release of the proved pool.
+///
+/// # Safety
+///
+/// A get or a downgrade by this lane gave the reference, which is spent here.
+#[inline(always)]
+pub(super) unsafe fn release<O: slotcell::Clear>(
+    pool: &Pool<O>,
+    lane: &mut Lane<O>,
+    (key, start): (u64, u32),
+    emptier: impl Emptier<O>,
+) {
+    // SAFETY: the reference's place is one of the pool's, and has a word.
+    unsafe { pool.grid.table.shared.has_word(life_at(start as usize)) };
+    let reference = Ref::to(key, start, &lane.state.places);
+    pool.release_with(lane, reference, emptier);
 }
 
 /// How many places the next page of a lane has, where a create would open one.

@@ -4,7 +4,7 @@ use super::proved::{self, cell, of_either, Parts, ProvedLane, ProvedPool};
 use super::seat::{Post, Stands, Store};
 use super::token::{Begun, By, Held};
 use crate::clear::Clear;
-use crate::erased::shardpool::{CreateFault, Ref, MOST_REFERENCES};
+use crate::erased::shardpool::{CreateFault, MOST_REFERENCES};
 use crate::errors::{CreateError, GetError, MemoryRefused};
 use crate::key::Key;
 use crate::object::{Block, Chain, Chunk, Crowded, Placed, Source};
@@ -26,8 +26,13 @@ impl Call {
 }
 
 impl Drop for Call {
+    #[inline(always)]
     fn drop(&mut self) {
-        process::abort();
+        /// (Of C, so that nothing is thought to come out of it.)
+        extern "C" fn end_process() -> ! {
+            process::abort()
+        }
+        end_process();
     }
 }
 
@@ -179,8 +184,8 @@ impl<'s, T: Clear, P: Stands<'s, T>> Turn<'s, T, P> {
     /// call doesn't know, and to a place that gets no object any more.)
     #[inline(always)]
     unsafe fn emptier(&mut self, key: Key) -> Emptying<'s, T> {
-        // SAFETY: the turn isn't used otherwise within the call.
-        Emptying::of(unsafe { Turn::of(self.post()) }, key)
+        // SAFETY: the caller's.
+        unsafe { Emptying::of(self.post(), key) }
     }
 
     /// The lane.
@@ -453,13 +458,10 @@ impl<'s, T: Clear, P: Stands<'s, T>> Turn<'s, T, P> {
             return Err(GetError::References);
         }
         // SAFETY: for the call below.
-        let mut emptier = unsafe { self.emptier(key) };
+        let emptier = unsafe { self.emptier(key) };
         let number = u64::from(key);
         let got = call!(T, self, |pool, lane| proved::get(
-            pool,
-            lane,
-            number,
-            &mut emptier
+            pool, lane, number, emptier
         ));
         let Some((start, object)) = got else {
             return Ok(None);
@@ -478,11 +480,11 @@ impl<'s, T: Clear, P: Stands<'s, T>> Turn<'s, T, P> {
     #[inline(always)]
     pub(super) unsafe fn release<W>(&mut self, held: Held<'_, T, W>) {
         // SAFETY: for the call below.
-        let mut emptier = unsafe { self.emptier(held.key()) };
-        let (key, start) = held.into_proved();
+        let emptier = unsafe { self.emptier(held.key()) };
+        let parts = held.into_proved();
         call!(T, self, |pool, lane| {
-            let proved = Ref::to(key, start, &lane.state.places);
-            pool.release_with(lane, proved, &mut emptier);
+            // SAFETY: the caller's, and the reference is spent.
+            unsafe { proved::release(pool, lane, parts, emptier) }
         });
     }
 
@@ -490,9 +492,9 @@ impl<'s, T: Clear, P: Stands<'s, T>> Turn<'s, T, P> {
     #[inline(always)]
     pub(super) fn clear(&mut self, key: Key) -> bool {
         // SAFETY: for the call below.
-        let mut emptier = unsafe { self.emptier(key) };
+        let emptier = unsafe { self.emptier(key) };
         call!(T, self, |pool, lane| {
-            pool.clear_with(lane, u64::from(key), &mut emptier)
+            pool.clear_with(lane, u64::from(key), emptier)
         })
     }
 }

@@ -5,6 +5,7 @@ use super::heap::{free, zeroed, AllocError, Global};
 use super::rows::{Slots, Vec};
 use crate::sync::AtomicU64;
 use crate::sync::Ordering::{Relaxed, Release, SeqCst};
+use std::hint;
 use std::marker::PhantomData;
 use std::mem::{self, ManuallyDrop};
 use std::ptr;
@@ -62,6 +63,19 @@ impl<S> Shared<S> {
         // SAFETY: the index is in range: it was looked at, or is proved. The words live as long as the table, are atomic for all, and
         // stand where atomic words may.
         unsafe { AtomicU64::from_ptr(self.words.add(index)) }
+    }
+
+    /// Tells the compiler that there is a word, so that a step on it doesn't look.
+    ///
+    /// # Safety
+    ///
+    /// There is.
+    #[inline(always)]
+    pub(crate) unsafe fn has_word(&self, index: usize) {
+        if index >= self.word_count {
+            // SAFETY: the caller's.
+            unsafe { hint::unreachable_unchecked() };
+        }
     }
 
     #[inline(always)]

@@ -19,13 +19,13 @@ impl<T: Clear> Pool<T> {
     /// number that is no key of the pool, without a step.
     #[inline(always)]
     pub fn clear(&self, lane: &mut Lane<T>, key: u64) -> bool {
-        let mut in_place = InPlace;
-        self.clear_with(lane, key, &mut in_place)
+        let in_place = InPlace;
+        self.clear_with(lane, key, in_place)
     }
 
     /// As `clear`. The object of a place that it reclaims is handed to the emptier.
     #[inline(always)]
-    pub fn clear_with<E: Emptier<T>>(&self, lane: &mut Lane<T>, key: u64, emptier: &mut E) -> bool {
+    pub fn clear_with<E: Emptier<T>>(&self, lane: &mut Lane<T>, key: u64, emptier: E) -> bool {
         let Some(spot) = self.find(key) else {
             lane.seen_law();
             return false;
@@ -50,7 +50,7 @@ pub(crate) fn clear_and_keep<T: Clear, E: Emptier<T>>(
     state: &mut LaneState<T>,
     start: u32,
     key: u64,
-    emptier: &mut E,
+    emptier: E,
 ) -> bool {
     let spot = Spot {
         place: place_of(key),
@@ -73,7 +73,7 @@ fn clear_by_steps_and_keep<T: Clear, E: Emptier<T>>(
     state: &mut LaneState<T>,
     start: u32,
     key: u64,
-    emptier: &mut E,
+    emptier: E,
 ) -> bool {
     let spot = Spot {
         place: place_of(key),
@@ -93,7 +93,7 @@ pub(crate) fn try_clear<T: Clear, E: Emptier<T>>(
     hand: &mut Hand<T>,
     at: At,
     key: u64,
-    emptier: &mut E,
+    emptier: E,
 ) -> Option<(bool, Option<Reclaimed<T>>)> {
     let generation = generation_of(key);
     let found = grid.sweep(hand, at.spot, key);
@@ -121,7 +121,7 @@ pub(crate) fn clear_by_steps<T: Clear, E: Emptier<T>>(
     hand: &mut Hand<T>,
     at: At,
     key: u64,
-    emptier: &mut E,
+    emptier: E,
 ) -> (bool, Option<Reclaimed<T>>) {
     let found = grid.enter(hand, at.spot, key, Purpose::ToClear);
     let marked = is_hit(key, found) && mark(grid, hand, at.spot, key, found);

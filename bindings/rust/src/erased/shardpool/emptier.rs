@@ -5,7 +5,7 @@
 use crate::erased::slotcell::Clear;
 
 /// Whom a call hands the object of the place that it reclaims. The calls that take none clear it in place.
-pub trait Emptier<T: Clear> {
+pub trait Emptier<T: Clear>: Copy {
     /// Empties the object, whose room is no smaller afterwards. What it held may be kept by the emptier, to be dropped
     /// or used again where its owner likes.
     fn empty(&mut self, object: &mut T);
@@ -15,6 +15,7 @@ pub trait Emptier<T: Clear> {
 }
 
 /// Clears objects in place, and drops that of a place which gets none any more.
+#[derive(Clone, Copy)]
 pub struct InPlace;
 
 impl<T: Clear> Emptier<T> for InPlace {

@@ -70,7 +70,7 @@ impl<T: Clear> Pool<T> {
         &self,
         lane: &mut Lane<T>,
         key: u64,
-        emptier: &mut E,
+        emptier: E,
     ) -> Option<Ref<T>> {
         let start = self.get_at_with(lane, key, emptier)?;
         Some(Ref::to(key, start, &lane.state.places))
@@ -80,18 +80,13 @@ impl<T: Clear> Pool<T> {
     /// `Lane::read_at` finds the object without looking for the key's place again.
     #[inline(always)]
     pub fn get_at(&self, lane: &mut Lane<T>, key: u64) -> Option<u32> {
-        let mut in_place = InPlace;
-        self.get_at_with(lane, key, &mut in_place)
+        let in_place = InPlace;
+        self.get_at_with(lane, key, in_place)
     }
 
     /// As `get_at`, with an emptier.
     #[inline(always)]
-    fn get_at_with<E: Emptier<T>>(
-        &self,
-        lane: &mut Lane<T>,
-        key: u64,
-        emptier: &mut E,
-    ) -> Option<u32> {
+    fn get_at_with<E: Emptier<T>>(&self, lane: &mut Lane<T>, key: u64, emptier: E) -> Option<u32> {
         let number = lane.state.number;
         let spot = self.find(key)?;
         let found = self.grid.enter(&mut lane.hand, spot, key, Purpose::ToGet);
@@ -157,7 +152,7 @@ pub(crate) fn end_miss<T: Clear, E: Emptier<T>>(
     state: &mut LaneState<T>,
     spot: Spot,
     key: u64,
-    emptier: &mut E,
+    emptier: E,
 ) {
     let left = grid.leave(hand, spot, key);
     finish_if_owed(grid, hand, state, spot, key, left, emptier);

@@ -125,14 +125,14 @@ impl<T: Clear> LendingLane<T> {
         let spot = pool.find(key)?;
         let found = pool.grid.enter(&mut self.hand, spot, key, Purpose::ToGet);
         if !is_hit(key, found) {
-            let mut in_place = InPlace;
+            let in_place = InPlace;
             end_miss(
                 &pool.grid,
                 &mut self.hand,
                 &mut self.state,
                 spot,
                 key,
-                &mut in_place,
+                in_place,
             );
             return None;
         }
@@ -170,7 +170,7 @@ impl<T: Clear> LendingLane<T> {
             .settle(&mut self.hand, spot, number, number, share);
         count_less(&mut self.state);
         let left = pool.grid.leave(&mut self.hand, spot, key);
-        let mut in_place = InPlace;
+        let in_place = InPlace;
         finish_if_owed(
             &pool.grid,
             &mut self.hand,
@@ -178,7 +178,7 @@ impl<T: Clear> LendingLane<T> {
             spot,
             key,
             left,
-            &mut in_place,
+            in_place,
         );
     }
 

@@ -23,7 +23,7 @@ pub(crate) fn finish_if_owed<T: Clear, E: Emptier<T>>(
     spot: Spot,
     key: u64,
     found: u64,
-    emptier: &mut E,
+    emptier: E,
 ) {
     if owes_claim(found) {
         finish(grid, hand, state, spot.start, key, found, emptier);
@@ -34,14 +34,14 @@ pub(crate) fn finish_if_owed<T: Clear, E: Emptier<T>>(
 /// they have at hand, and answers nothing.
 #[cold]
 #[inline]
-fn finish<T: Clear, E: Emptier<T>>(
+extern "C" fn finish<T: Clear, E: Emptier<T>>(
     grid: &Grid<T>,
     hand: &mut Hand<T>,
     state: &mut LaneState<T>,
     start: u32,
     key: u64,
     found: u64,
-    emptier: &mut E,
+    emptier: E,
 ) {
     let spot = Spot {
         place: place_of(key),
@@ -103,7 +103,7 @@ pub(crate) fn finish_leave<T: Clear, E: Emptier<T>>(
     hand: &mut Hand<T>,
     at: At,
     found: u64,
-    emptier: &mut E,
+    emptier: E,
 ) -> Option<Reclaimed<T>> {
     let generation = owed_by(found)?;
     let word = grid.claim(hand, at.spot, generation);
@@ -130,7 +130,7 @@ pub(crate) fn reclaim_place<T: Clear, E: Emptier<T>>(
     hand: &mut Hand<T>,
     at: At,
     generation: u32,
-    emptier: &mut E,
+    mut emptier: E,
 ) -> Reclaimed<T> {
     let mut whole = take_cell(grid, hand, at.spot, at.lane);
     if generation == grid.shape.last_generation {
@@ -155,7 +155,7 @@ fn retire<T: Clear, E: Emptier<T>>(
     hand: &mut Hand<T>,
     at: At,
     mut whole: Whole<T>,
-    emptier: &mut E,
+    mut emptier: E,
 ) {
     let object = whole.get_mut(grid.objects, at.spot.start as usize);
     emptier.retire(mem::replace(object, T::fresh(at.alloc)));

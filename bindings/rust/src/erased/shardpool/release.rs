@@ -21,12 +21,7 @@ impl<T: Clear> Pool<T> {
 
     /// As `release`. The object of a place that it reclaims is handed to the emptier.
     #[inline(always)]
-    pub fn release_with<E: Emptier<T>>(
-        &self,
-        lane: &mut Lane<T>,
-        reference: Ref<T>,
-        emptier: &mut E,
-    ) {
+    pub fn release_with<E: Emptier<T>>(&self, lane: &mut Lane<T>, reference: Ref<T>, emptier: E) {
         let start = lane.state.start_of(&reference);
         self.release_at_with(lane, start, reference.spend(), emptier);
     }
@@ -34,19 +29,13 @@ impl<T: Clear> Pool<T> {
     /// As `release`, of a reference that stays with the lane, to a key whose place stands here, as `get_at` answers.
     #[inline(always)]
     pub fn release_at(&self, lane: &mut Lane<T>, start: u32, key: u64) {
-        let mut in_place = InPlace;
-        self.release_at_with(lane, start, key, &mut in_place);
+        let in_place = InPlace;
+        self.release_at_with(lane, start, key, in_place);
     }
 
     /// As `release_at`, with an emptier.
     #[inline(always)]
-    fn release_at_with<E: Emptier<T>>(
-        &self,
-        lane: &mut Lane<T>,
-        start: u32,
-        key: u64,
-        emptier: &mut E,
-    ) {
+    fn release_at_with<E: Emptier<T>>(&self, lane: &mut Lane<T>, start: u32, key: u64, emptier: E) {
         let spot = Spot {
             place: place_of(key),
             start,
@@ -56,13 +45,7 @@ impl<T: Clear> Pool<T> {
 
     /// Gives back a reference to a key, whose place stands here.
     #[inline(always)]
-    fn release_from<E: Emptier<T>>(
-        &self,
-        lane: &mut Lane<T>,
-        spot: Spot,
-        key: u64,
-        emptier: &mut E,
-    ) {
+    fn release_from<E: Emptier<T>>(&self, lane: &mut Lane<T>, spot: Spot, key: u64, emptier: E) {
         return_last_share(&self.grid, &mut lane.hand, &mut lane.state, spot, key);
         drop_reference(&mut lane.state, spot.start as usize);
         let left = self.grid.leave(&mut lane.hand, spot, key);
