@@ -110,6 +110,7 @@ impl Scenario {
         let run = move |plan: Plan<'_>, left| {
             let end = |world| {
                 finish(world);
+                assert!(pardz::empties_none(), "an object is emptied still");
                 assert_eq!(ALIVE.swap(0, SeqCst), left, "objects are left");
             };
             explorer::explore(plan, begin, &works, end)

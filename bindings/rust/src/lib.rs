@@ -202,7 +202,7 @@ pub use filling::{Filling, OwnedFilling, PoolFilling};
 pub use key::Key;
 pub use lane::Lane;
 #[cfg(pardz_explore)]
-pub use lanes::{lends_after, lends_still};
+pub use lanes::{empties_none, lends_after, lends_still};
 pub use pool::{Census, Growth, Pool, Shape};
 pub use put::Put;
 pub use reference::{OwnedRef, PoolRef, Ref};

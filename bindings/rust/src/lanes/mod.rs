@@ -47,5 +47,7 @@ pub(crate) use in_hand::Hand;
 pub(crate) use kept::{create_owned, get_owned, Kept};
 pub(crate) use share::Share;
 #[cfg(pardz_explore)]
+pub use shared::empties_none;
+#[cfg(pardz_explore)]
 pub use threads::{lends_after, lends_still};
 pub(crate) use token::{Begun, Held, InHand, OfThread, Spent};

@@ -375,6 +375,12 @@ impl Drop for Framed {
     }
 }
 
+/// Whether the thread is emptying no object of a shared lane.
+#[cfg(pardz_explore)]
+pub fn empties_none() -> bool {
+    FRAMES.get().is_null()
+}
+
 /// Where the objects of a segment wait, if this thread is emptying one of it, further out on the stack.
 fn outer_waiting<T: Clear>(segment: &Segment<T>) -> Option<&RefCell<Chain<T>>> {
     let mut frame = FRAMES.get();
