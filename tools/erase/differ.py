@@ -12,14 +12,18 @@ import collections
 import json
 import os
 import random
-import re
 import shutil
 import subprocess
 import sys
 import tempfile
 
 HERE = os.path.dirname(os.path.abspath(__file__))
-SOURCES = os.path.join(os.path.dirname(os.path.dirname(HERE)), "bindings", "rust", "src")
+BINDINGS = os.path.join(os.path.dirname(os.path.dirname(HERE)), "bindings")
+SOURCES = os.path.join(BINDINGS, "rust", "src")
+sys.dont_write_bytecode = True
+sys.path.insert(0, os.path.join(BINDINGS, "explore"))
+import plant
+
 KINDS = dict(ENTER="E", LEAVE="L", PUBLISH="P", MARK="M", CLAIM="C", LINK="K", PUSH="U", TAKE="T", FOLLOW="F")
 # What a register has behind a command that goes well.
 HAS = dict(create="filling", get="reference", publish=None, downgrade="reference", release=None)
@@ -143,25 +147,25 @@ def census_of(shape, steps, told):
     return f"census free {rest} unopened {unopened} filling {fillings} present {states[1]} marked {states[3]} retired {states[2]}"
 
 
-def build(sources, out, level, words=CHECKED):
-    """The replay program over the sources in a folder. Answers what the compiler says where it fails."""
+def build(sources, out, level, words=CHECKED, more=""):
+    """The replay program over the sources in a folder, with more behind it. Answers what the compiler says where it fails."""
     program = os.path.join(HERE, "replay.rs")
     if sources != SOURCES:
         with open(program, encoding="utf-8") as file:
             text = file.read().replace("../../bindings/rust/src", sources)
         program = out + ".rs"
         with open(program, "w", encoding="utf-8") as file:
-            file.write(text)
+            file.write(text + more)
     made = subprocess.run([*RUSTC, *words, f"-Copt-level={level}", program, "-o", out], capture_output=True, text=True)
     return made.stderr if made.returncode else None
 
 
-def replay(program, cases):
+def replay(program, cases, environment=None):
     """How many cases the program answers as poolrun does, by the erased pool's calls and by the crate's; what is wrong with the next
     one; and how often operations stood for several steps."""
     text = "".join(case.text for case in cases)
     try:
-        made = subprocess.run([program], input=text, capture_output=True, text=True, timeout=100)
+        made = subprocess.run([program], input=text, capture_output=True, text=True, timeout=100, env=os.environ | (environment or {}))
     except subprocess.TimeoutExpired:
         return 0, "no end", [0, 0, 0, 0]
     answers, lines, composed = [], [], [0, 0, 0, 0]
@@ -227,47 +231,27 @@ def compare(poolrun, scripts, seed, folder):
     print(f"{done} scripts, {steps} steps, {equal}; in both {told}")
 
 
-def read_faults():
-    """(file, old text, new text) of each planted fault."""
-    with open(os.path.join(HERE, "faults.txt"), encoding="utf-8") as file:
-        text = re.sub(r"^#.*\n", "", file.read(), flags=re.M)
-    faults = []
-    for part in text.split("\n\n"):
-        if part.strip():
-            name, old, new = re.fullmatch(r"(\S+)\n- (.*)\n\+ (.*)", part.strip()).groups()
-            faults.append((name, old, new))
-    return faults
-
-
-def plant(poolrun, scripts, seed, folder):
+def find_faults(poolrun, scripts, seed, folder):
+    """Plants the faults in one copy, each behind a branch, and looks whether each is found, and nothing where none is planted."""
+    sources, program = os.path.join(folder, "rust", "src"), os.path.join(folder, "replay")
+    shutil.copytree(SOURCES, sources)
+    faults = plant.read_faults([os.path.join(HERE, "faults.txt")])
+    left = plant.plant(faults, folder)
+    fault = "faults overlap" if left else build(sources, program, 0, more=plant.PLANTED)
+    if fault:
+        sys.exit(f"FAIL the planted faults: {fault}")
     rng = random.Random(seed)
     cases = [refer(poolrun, rng) for _ in range(scripts)]
-    found = 0
-    faults = read_faults()
-    for number, (name, old, new) in enumerate(faults):
-        sources = os.path.join(folder, f"fault{number}")
-        shutil.copytree(SOURCES, sources)
-        path = os.path.join(sources, "erased", name)
-        with open(path, encoding="utf-8") as file:
-            text = file.read()
-        where = f"{name}: `{new}` for `{old}`"
-        if text.count(old) != 1:
-            print(f"FAIL {where}: stands there {text.count(old)} times")
-            continue
-        with open(path, "w", encoding="utf-8") as file:
-            file.write(text.replace(old, new))
-        program = os.path.join(folder, f"replay{number}")
-        fault = build(sources, program, 0)
-        if fault:
-            print(f"FAIL {where}: {fault}")
-            continue
+    failed = False
+    for number, where in [(0, "no fault"), *((fault.number, f"{fault.file}: {fault.what}") for fault in faults)]:
         done, wrong = 0, None
         while done < scripts and not wrong:
-            good, wrong, _ = replay(program, cases[done : done + BATCH])
+            good, wrong, _ = replay(program, cases[done : done + BATCH], {"PLANTED": str(number)})
             done += good + bool(wrong)
-        found += bool(wrong)
-        print(f"ok   {where}: found by script {done}: {wrong}" if wrong else f"FAIL {where}: {done} scripts find nothing")
-    if found < len(faults):
+        failed |= bool(wrong) != bool(number)
+        told = f"found by script {done}: {wrong}" if wrong else f"{done} scripts find nothing"
+        print(f"{'ok  ' if bool(wrong) == bool(number) else 'FAIL'} {where}: {told}")
+    if failed:
         sys.exit(1)
 
 
@@ -279,7 +263,7 @@ def main():
     parser.add_argument("--faults", action="store_true")
     words = parser.parse_args()
     with tempfile.TemporaryDirectory() as folder:
-        (plant if words.faults else compare)(words.poolrun, words.scripts, words.seed, folder)
+        (find_faults if words.faults else compare)(words.poolrun, words.scripts, words.seed, folder)
 
 
 if __name__ == "__main__":
