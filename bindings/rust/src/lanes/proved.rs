@@ -137,7 +137,7 @@ pub(super) unsafe fn release<O: slotcell::Clear>(
     (key, start): (u64, u32),
     emptier: impl Emptier<O>,
 ) {
-    // SAFETY: the reference's place is one of the pool's, and has a word.
+    // SAFETY: the reference's place is one of the pool's, whose word its get or its publish has reached.
     unsafe { pool.grid.table.shared.has_word(life_at(start as usize)) };
     let reference = Ref::to(key, start, &lane.state.places);
     pool.release_with(lane, reference, emptier);
