@@ -1,6 +1,7 @@
 //! The Rust crate, by calls of a growing pool.
+use crate::rounds::{self, Plan};
 use crate::stores::{Keyed, Store, BYTES};
-use pardz::{Buffer, Key, Pool};
+use pardz::{Buffer, Key, Lane, Pool};
 
 fn growing() -> Pool<Buffer> {
     Pool::growing().expect("memory")
@@ -99,4 +100,49 @@ impl Keyed for Owned {
     fn key(word: u64) -> Key {
         key_of(word)
     }
+}
+
+/// By a lane in hand.
+struct ByLane<'p>(Lane<'p>);
+
+impl Store for ByLane<'_> {
+    type Handle = Key;
+
+    #[inline]
+    fn put(&self) -> Key {
+        self.0.put(&BYTES).expect("memory")
+    }
+
+    #[inline]
+    fn read(&self, key: &Key) -> usize {
+        self.0.get(*key).map_or(0, |bytes| bytes.len())
+    }
+
+    #[inline]
+    fn take(&self, key: Key) -> bool {
+        self.0.clear(key)
+    }
+}
+
+/// Does the rounds of this name, each thread by a lane in hand. None where there are none of the name.
+pub fn do_by_lanes(name: &str, plan: Plan) -> Option<u64> {
+    let pool = growing();
+    match name {
+        "get-many" => Some(by_lanes(&pool, plan, rounds::many_gets)),
+        "get-two" => Some(by_lanes(&pool, plan, rounds::two_gets)),
+        "cycle" => Some(by_lanes(&pool, plan, rounds::cycles)),
+        "cycle-two" => Some(by_lanes(&pool, plan, rounds::two_cycles)),
+        _ => None,
+    }
+}
+
+fn by_lanes<'p>(
+    pool: &'p Pool<Buffer>,
+    plan: Plan,
+    work: impl Fn(&ByLane<'p>, u64) -> u64 + Sync,
+) -> u64 {
+    rounds::on_threads(plan.threads, |_| {
+        let lane = pool.lane().expect("a lane is free");
+        work(&ByLane(lane), plan.rounds)
+    })
 }

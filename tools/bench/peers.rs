@@ -8,7 +8,8 @@
 //!
 //! - `slab`: the `Pool` of the real sharded-slab, as Debian has it; `slab16k` with buffers of 16 KiB, `slab192` with objects of 192
 //!   bytes; `slabowned` by its owned handles;
-//! - `pardz`: the Rust crate, by calls of a growing pool; `owned` by its owned handles;
+//! - `pardz`: the Rust crate, by calls of a growing pool; `owned` by its owned handles; `lane` by a lane in hand of each thread, which
+//!   has the rounds `get-many`, `get-two`, `cycle` and `cycle-two`;
 //! - `dropin`: the Rust crate's module `sharded_slab`, by the same lines as `slab`; `dropin16k`, `dropin192`
 //!   and `dropinowned` likewise;
 //! - `slabvec`, `slabownedvec`, `dropinvec`, `dropinownedvec`: the same of a `Vec<u8>`, which has the library's `Clear`;
@@ -77,7 +78,7 @@ use stores::{Arcs, Keyed, Local, Map, Queue, Row, Stack, Store};
 const PAGE_ROUND: usize = 1985;
 
 /// Does the rounds of this name over a store. None where there are none of the name.
-fn do_rounds<S: Store>(store: &S, name: &str, plan: Plan) -> Option<u64> {
+fn do_rounds<S: Store + Sync>(store: &S, name: &str, plan: Plan) -> Option<u64> {
     match name {
         "get-own" => Some(rounds::get(store, plan, Whose::Own)),
         "get-shared" => Some(rounds::get(store, plan, Whose::Shared)),
@@ -105,7 +106,7 @@ fn do_rounds<S: Store>(store: &S, name: &str, plan: Plan) -> Option<u64> {
 }
 
 /// Does the rounds of this name over stores whose handles are keys.
-fn do_keyed<S: Keyed + Default>(name: &str, plan: Plan) -> Option<u64> {
+fn do_keyed<S: Keyed + Sync + Default>(name: &str, plan: Plan) -> Option<u64> {
     let pairs = plan.threads % 2 == 0;
     match name {
         "pass" => pairs.then(|| rounds::pass(&S::default(), plan)),
@@ -165,6 +166,7 @@ fn do_case(case: &str, plan: Plan) -> Option<u64> {
         "dropin192" => do_rounds(&dropin::Slab::<dropin::Record>::default(), name, plan),
         "pardz" => do_keyed::<self::pardz::Pardz>(name, plan),
         "owned" => do_keyed::<self::pardz::Owned>(name, plan),
+        "lane" => self::pardz::do_by_lanes(name, plan),
         "map" => do_keyed::<Map>(name, plan),
         "row" => do_keyed::<Row>(name, plan),
         "queue" => do_rounds(&Queue::default(), name, plan),

@@ -82,7 +82,7 @@ pub fn alu(rounds: u64) -> u64 {
 }
 
 /// Each thread puts a buffer; when all have, each reads one.
-pub fn get<S: Store>(store: &S, plan: Plan, whose: Whose) -> u64 {
+pub fn get<S: Store + Sync>(store: &S, plan: Plan, whose: Whose) -> u64 {
     let handles: Vec<OnceLock<S::Handle>> = (0..plan.threads).map(|_| OnceLock::new()).collect();
     let all_put = Barrier::new(plan.threads);
     let all_read = Barrier::new(plan.threads);
@@ -102,31 +102,39 @@ pub fn get<S: Store>(store: &S, plan: Plan, whose: Whose) -> u64 {
 }
 
 /// Each thread reads 16 buffers of its own in turn.
-pub fn get_many<S: Store>(store: &S, plan: Plan) -> u64 {
-    on_threads(plan.threads, |_| {
-        let handles: [S::Handle; MANY] = array::from_fn(|_| store.put());
-        (0..plan.rounds)
-            .map(|round| store.read(&handles[(round % MANY as u64) as usize]) as u64)
-            .sum()
-    })
+pub fn get_many<S: Store + Sync>(store: &S, plan: Plan) -> u64 {
+    on_threads(plan.threads, |_| many_gets(store, plan.rounds))
+}
+
+/// What one thread does of it.
+#[inline]
+pub fn many_gets<S: Store>(store: &S, rounds: u64) -> u64 {
+    let handles: [S::Handle; MANY] = array::from_fn(|_| store.put());
+    (0..rounds)
+        .map(|round| store.read(&handles[(round % MANY as u64) as usize]) as u64)
+        .sum()
 }
 
 /// The same, two rounds one after the other from two places of call.
-pub fn get_two<S: Store>(store: &S, plan: Plan) -> u64 {
-    on_threads(plan.threads, |_| {
-        let handles: [S::Handle; MANY] = array::from_fn(|_| store.put());
-        (0..plan.rounds / 2)
-            .map(|round| {
-                let first = (round % (MANY as u64 / 2)) as usize;
-                let bytes = store.read(&handles[first]) as u64;
-                bytes + store.read(&handles[first + MANY / 2]) as u64
-            })
-            .sum()
-    })
+pub fn get_two<S: Store + Sync>(store: &S, plan: Plan) -> u64 {
+    on_threads(plan.threads, |_| two_gets(store, plan.rounds))
+}
+
+/// What one thread does of it.
+#[inline]
+pub fn two_gets<S: Store>(store: &S, rounds: u64) -> u64 {
+    let handles: [S::Handle; MANY] = array::from_fn(|_| store.put());
+    (0..rounds / 2)
+        .map(|round| {
+            let first = (round % (MANY as u64 / 2)) as usize;
+            let bytes = store.read(&handles[first]) as u64;
+            bytes + store.read(&handles[first + MANY / 2]) as u64
+        })
+        .sum()
 }
 
 /// Each thread reads one of many buffers at random.
-pub fn get_large<S: Store>(store: &S, plan: Plan) -> u64 {
+pub fn get_large<S: Store + Sync>(store: &S, plan: Plan) -> u64 {
     on_threads(plan.threads, |_| {
         let handles: Vec<S::Handle> = (0..LARGE).map(|_| store.put()).collect();
         let count = handles.len() as u64;
@@ -142,28 +150,36 @@ pub fn get_large<S: Store>(store: &S, plan: Plan) -> u64 {
 }
 
 /// Each thread puts a buffer and takes it away.
-pub fn cycle<S: Store>(store: &S, plan: Plan) -> u64 {
-    on_threads(plan.threads, |_| {
-        (0..plan.rounds)
-            .filter(|_| store.take(black_box(store.put())))
-            .count() as u64
-    })
+pub fn cycle<S: Store + Sync>(store: &S, plan: Plan) -> u64 {
+    on_threads(plan.threads, |_| cycles(store, plan.rounds))
+}
+
+/// What one thread does of it.
+#[inline]
+pub fn cycles<S: Store>(store: &S, rounds: u64) -> u64 {
+    (0..rounds)
+        .filter(|_| store.take(black_box(store.put())))
+        .count() as u64
 }
 
 /// The same, two rounds one after the other from two places of call.
-pub fn cycle_two<S: Store>(store: &S, plan: Plan) -> u64 {
-    on_threads(plan.threads, |_| {
-        (0..plan.rounds / 2)
-            .map(|_| {
-                let first = store.take(black_box(store.put()));
-                u64::from(first) + u64::from(store.take(black_box(store.put())))
-            })
-            .sum()
-    })
+pub fn cycle_two<S: Store + Sync>(store: &S, plan: Plan) -> u64 {
+    on_threads(plan.threads, |_| two_cycles(store, plan.rounds))
+}
+
+/// What one thread does of it.
+#[inline]
+pub fn two_cycles<S: Store>(store: &S, rounds: u64) -> u64 {
+    (0..rounds / 2)
+        .map(|_| {
+            let first = store.take(black_box(store.put()));
+            u64::from(first) + u64::from(store.take(black_box(store.put())))
+        })
+        .sum()
 }
 
 /// Each thread puts a buffer, reads it, and takes it away.
-pub fn life<S: Store>(store: &S, plan: Plan) -> u64 {
+pub fn life<S: Store + Sync>(store: &S, plan: Plan) -> u64 {
     on_threads(plan.threads, |_| {
         (0..plan.rounds)
             .map(|_| {
@@ -176,7 +192,7 @@ pub fn life<S: Store>(store: &S, plan: Plan) -> u64 {
 }
 
 /// Each thread puts a buffer and takes it away while it reads it.
-pub fn held<S: Store>(store: &S, plan: Plan) -> u64 {
+pub fn held<S: Store + Sync>(store: &S, plan: Plan) -> u64 {
     on_threads(plan.threads, |_| {
         (0..plan.rounds)
             .map(|_| store.read_last(black_box(store.put())) as u64)
@@ -185,7 +201,7 @@ pub fn held<S: Store>(store: &S, plan: Plan) -> u64 {
 }
 
 /// Each thread puts a buffer, and takes it away again and again.
-pub fn miss<S: Keyed>(store: &S, plan: Plan) -> u64 {
+pub fn miss<S: Keyed + Sync>(store: &S, plan: Plan) -> u64 {
     on_threads(plan.threads, |_| {
         let key = store.put();
         (0..plan.rounds)
@@ -195,7 +211,7 @@ pub fn miss<S: Keyed>(store: &S, plan: Plan) -> u64 {
 }
 
 /// Each thread puts a buffer and takes it away, and reads it again and again.
-pub fn get_miss<S: Keyed>(store: &S, plan: Plan) -> u64 {
+pub fn get_miss<S: Keyed + Sync>(store: &S, plan: Plan) -> u64 {
     on_threads(plan.threads, |_| {
         let key = store.put();
         store.take(key);
@@ -206,7 +222,7 @@ pub fn get_miss<S: Keyed>(store: &S, plan: Plan) -> u64 {
 }
 
 /// Each thread puts a thousand buffers, reads them, and takes them away.
-pub fn at_once<S: Store>(store: &S, plan: Plan) -> u64 {
+pub fn at_once<S: Store + Sync>(store: &S, plan: Plan) -> u64 {
     on_threads(plan.threads, |_| {
         let mut handles = Vec::with_capacity(AT_ONCE);
         (0..plan.rounds)
@@ -238,7 +254,7 @@ fn replace_oldest<S: Store>(store: &S, handles: &mut [Option<S::Handle>], rounds
 }
 
 /// Each thread has 24 buffers, takes the oldest away and puts a new one.
-pub fn churn<S: Store>(store: &S, plan: Plan) -> u64 {
+pub fn churn<S: Store + Sync>(store: &S, plan: Plan) -> u64 {
     on_threads(plan.threads, |_| {
         let mut handles: [Option<S::Handle>; LIVE] = array::from_fn(|_| Some(store.put()));
         replace_oldest(store, &mut handles, plan.rounds)
@@ -246,7 +262,7 @@ pub fn churn<S: Store>(store: &S, plan: Plan) -> u64 {
 }
 
 /// The same with so many buffers.
-pub fn churn_of<S: Store>(store: &S, plan: Plan, live: usize) -> u64 {
+pub fn churn_of<S: Store + Sync>(store: &S, plan: Plan, live: usize) -> u64 {
     on_threads(plan.threads, |_| {
         let mut handles: Vec<Option<S::Handle>> = (0..live).map(|_| Some(store.put())).collect();
         replace_oldest(store, &mut handles, plan.rounds)
@@ -270,7 +286,7 @@ fn receive(word: &AtomicU64) -> u64 {
 }
 
 /// Of each two threads the first puts buffers, and the second takes them away.
-pub fn pass<S: Keyed>(store: &S, plan: Plan) -> u64 {
+pub fn pass<S: Keyed + Sync>(store: &S, plan: Plan) -> u64 {
     let words: Vec<AtomicU64> = (0..plan.threads.div_ceil(2) * UNDER_WAY)
         .map(|_| AtomicU64::new(FREE))
         .collect();
@@ -295,7 +311,7 @@ fn wait_for(ready: impl Fn() -> bool) {
 }
 
 /// Of each two threads the first puts so many buffers, the second takes them all away, and so on.
-pub fn free_by_other<S: Keyed>(store: &S, plan: Plan, count: usize) -> u64 {
+pub fn free_by_other<S: Keyed + Sync>(store: &S, plan: Plan, count: usize) -> u64 {
     let pairs = plan.threads.div_ceil(2);
     let rows: Vec<Mutex<Vec<S::Handle>>> = (0..pairs).map(|_| Mutex::default()).collect();
     let turns: Vec<AtomicUsize> = (0..pairs).map(|_| AtomicUsize::new(0)).collect();
@@ -316,7 +332,7 @@ pub fn free_by_other<S: Keyed>(store: &S, plan: Plan, count: usize) -> u64 {
 }
 
 /// Does rounds while twelve other threads, of which each has put a buffer and taken it away, wait for their end.
-pub fn beside_idle<S: Store>(store: &S, rounds: impl FnOnce(&S) -> u64) -> u64 {
+pub fn beside_idle<S: Store + Sync>(store: &S, rounds: impl FnOnce(&S) -> u64) -> u64 {
     let (called, ended) = (Barrier::new(IDLE + 1), Barrier::new(IDLE + 1));
     thread::scope(|scope| {
         for _ in 0..IDLE {
@@ -334,7 +350,7 @@ pub fn beside_idle<S: Store>(store: &S, rounds: impl FnOnce(&S) -> u64) -> u64 {
 }
 
 /// Each thread reads a buffer of so many stores in turn.
-pub fn get_of_several<S: Store + Default, const N: usize>(plan: Plan) -> u64 {
+pub fn get_of_several<S: Store + Sync + Default, const N: usize>(plan: Plan) -> u64 {
     let stores: [S; N] = array::from_fn(|_| S::default());
     on_threads(plan.threads, |_| {
         let handles: [S::Handle; N] = array::from_fn(|number| stores[number].put());
@@ -348,7 +364,7 @@ pub fn get_of_several<S: Store + Default, const N: usize>(plan: Plan) -> u64 {
 }
 
 /// The same with a buffer that is put and taken away.
-pub fn cycle_of_several<S: Store + Default, const N: usize>(plan: Plan) -> u64 {
+pub fn cycle_of_several<S: Store + Sync + Default, const N: usize>(plan: Plan) -> u64 {
     let stores: [S; N] = array::from_fn(|_| S::default());
     on_threads(plan.threads, |_| {
         (0..plan.rounds)
@@ -361,7 +377,7 @@ pub fn cycle_of_several<S: Store + Default, const N: usize>(plan: Plan) -> u64 {
 }
 
 /// Each thread gives a fresh store so many buffers, and drops it; or keeps it, so that the drop isn't in the time.
-pub fn page<S: Store + Default>(plan: Plan, count: usize, drops: bool) -> u64 {
+pub fn page<S: Store + Sync + Default>(plan: Plan, count: usize, drops: bool) -> u64 {
     on_threads(plan.threads, |_| {
         (0..plan.rounds)
             .map(|_| {
@@ -377,7 +393,7 @@ pub fn page<S: Store + Default>(plan: Plan, count: usize, drops: bool) -> u64 {
 }
 
 /// Each thread gives a fresh store a hundred thousand buffers, takes them away in a random order, and drops it.
-pub fn random<S: Keyed + Default>(plan: Plan) -> u64 {
+pub fn random<S: Keyed + Sync + Default>(plan: Plan) -> u64 {
     on_threads(plan.threads, |_| {
         (0..plan.rounds)
             .map(|_| {

@@ -7,8 +7,8 @@ use std::sync::{Arc, Mutex, MutexGuard};
 /// The bytes of each buffer.
 pub const BYTES: [u8; 64] = [7; 64];
 
-/// Keeps buffers for many threads.
-pub trait Store: Sync {
+/// Keeps buffers: for many threads where it is `Sync`.
+pub trait Store {
     /// What names a buffer that was put.
     type Handle: Send + Sync;
 
