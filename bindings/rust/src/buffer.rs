@@ -96,7 +96,7 @@ impl Buffer {
     #[inline]
     pub fn reserve(&mut self, count: usize) -> Result<(), MemoryRefused> {
         self.len &= !LENT;
-        if self.capacity() - self.len < count {
+        if self.bytes.len() - self.len < count.saturating_add(TOLD) {
             return self.grow(count);
         }
         Ok(())
@@ -106,6 +106,9 @@ impl Buffer {
     #[cold]
     #[inline(never)]
     fn grow(&mut self, count: usize) -> Result<(), MemoryRefused> {
+        if count == 0 {
+            return Ok(());
+        }
         let all = self.len.checked_add(count);
         let all = all.and_then(|all| all.checked_add(TOLD));
         self.bytes.grow(all.ok_or(MemoryRefused)?)
@@ -118,10 +121,23 @@ impl Buffer {
     /// [`MemoryRefused`]: the bytes are then as before.
     #[inline]
     pub fn append(&mut self, bytes: &[u8]) -> Result<(), MemoryRefused> {
+        let begin = self.len();
         self.reserve(bytes.len())?;
-        let end = self.len + bytes.len();
-        self.bytes[self.len..end].copy_from_slice(bytes);
+        let end = begin + bytes.len();
+        self.bytes[begin..end].copy_from_slice(bytes);
         self.len = end;
+        Ok(())
+    }
+
+    /// Has these bytes alone. Where memory is refused, it is empty.
+    #[inline]
+    pub(crate) fn set(&mut self, bytes: &[u8]) -> Result<(), MemoryRefused> {
+        if self.bytes.len() < bytes.len().saturating_add(TOLD) {
+            self.len = 0;
+            self.grow(bytes.len())?;
+        }
+        self.bytes[..bytes.len()].copy_from_slice(bytes);
+        self.len = bytes.len();
         Ok(())
     }
 

@@ -56,7 +56,7 @@ impl Put for Buffer {
 
     #[inline]
     fn put(&mut self, bytes: &[u8]) -> Result<(), MemoryRefused> {
-        self.append(bytes)
+        self.set(bytes)
     }
 }
 

@@ -4,7 +4,7 @@ use super::give_back::give_back;
 use super::own::Own;
 use super::room::Room;
 use super::seat::{Near, Post, Stands};
-use super::segment::Segment;
+use super::segment::{Segment, Sight};
 use super::shared::NotShared;
 use super::threads::{self, Within};
 use super::token::{Begun, By, Held, OfThread, Spend, Spent};
@@ -13,7 +13,7 @@ use super::who::Caller;
 use crate::clear::Clear;
 use crate::errors::{CreateError, GetError};
 use crate::key::Key;
-use std::ptr::{self, NonNull};
+use std::ptr::NonNull;
 
 /// Which way a thread calls for what a call of the pool gave it.
 enum Way<'s, T: Clear> {
@@ -232,18 +232,22 @@ impl<T: Clear> Room<T> {
         }
     }
 
+    /// A clear by the thread's own lane. The segment where that had a place last is looked at first, as most keys are of it.
     #[inline(always)]
     fn clear_by_own(&self, own: Own<'_, T>, key: Key) -> bool {
-        let Some((segment, start)) = self.place_of(key) else {
-            return false;
-        };
-        if !ptr::eq(own.post().segment(), segment) {
-            return self.clear_elsewhere(segment, own, key, start);
+        let here = own.near();
+        match here.segment().sight(key) {
+            Sight::There(start) => self.clear_within(here, key, start),
+            Sight::Gone => false,
+            Sight::Foreign => self.clear_elsewhere(own, key),
         }
-        // SAFETY: it is its segment.
-        let own = unsafe { own.beside(segment) };
+    }
+
+    /// A clear of the lane's segment.
+    #[inline(always)]
+    fn clear_within<'s>(&'s self, own: Own<'s, T, Near<'s, T>>, key: Key, start: u32) -> bool {
         if self.is_of_shared(own, key) {
-            return self.clear_of_shared(segment, own, key, start);
+            return self.clear_of_shared(own, key, start);
         }
         own.clear(key)
     }
@@ -251,25 +255,19 @@ impl<T: Clear> Room<T> {
     /// A clear of the thread's own lane in another segment than it had a place last. (Apart, so that nothing leads back to the call's own
     /// path.)
     #[inline(never)]
-    fn clear_elsewhere<'s>(
-        &'s self,
-        segment: &'s Segment<T>,
-        own: Own<'s, T>,
-        key: Key,
-        start: u32,
-    ) -> bool {
+    fn clear_elsewhere<'s>(&'s self, own: Own<'s, T>, key: Key) -> bool {
+        let Some((segment, start)) = self.place_of(key) else {
+            return false;
+        };
         // SAFETY: it is of this pool.
         let Some(own) = (unsafe { own.within(segment) }) else {
             return self.clear_by_lock(Caller::Sharing, segment, key);
         };
-        if self.is_of_shared(own, key) {
-            return self.clear_of_shared(segment, own, key, start);
-        }
         if key.shard() == own.post().number() {
             // SAFETY: the thread keeps the lane of this seat.
             unsafe { self.had_place(own.post()) };
         }
-        own.clear(key)
+        self.clear_within(own, key, start)
     }
 
     /// Whether a key is of a lane that threads share.
@@ -299,13 +297,8 @@ impl<T: Clear> Room<T> {
 
     /// A clear of a shared lane's key: by that lane, where nobody has its lock, so that its next create finds the place at hand.
     #[inline(never)]
-    fn clear_of_shared<'s>(
-        &'s self,
-        segment: &'s Segment<T>,
-        own: Own<'s, T, Near<'s, T>>,
-        key: Key,
-        start: u32,
-    ) -> bool {
+    fn clear_of_shared<'s>(&'s self, own: Own<'s, T, Near<'s, T>>, key: Key, start: u32) -> bool {
+        let segment = own.segment();
         segment.fetch_ahead(start);
         let shard = key.shard();
         let Some((cleared, taken)) = segment.post(shard).try_shared_clear(key) else {

@@ -55,8 +55,13 @@ impl<'s, T: Clear, P: Stands<'s, T>> Own<'s, T, P> {
     }
 
     #[inline(always)]
+    pub(super) fn segment(&self) -> &Segment<T> {
+        self.at.segment()
+    }
+
+    #[inline(always)]
     pub(super) fn room(&self) -> &Room<T> {
-        self.at.segment().room()
+        self.segment().room()
     }
 
     /// Empties what the last call took out, if it was the last to let go of an object. Calls that are made meanwhile, by `T::clear`,
@@ -253,14 +258,10 @@ impl<'s, T: Clear, P: Stands<'s, T>> Own<'s, T, P> {
     }
 
     /// The same, with its segment beside it.
-    ///
-    /// # Safety
-    ///
-    /// It is that.
     #[inline(always)]
-    pub(super) unsafe fn beside(self, segment: &'s Segment<T>) -> Own<'s, T, Near<'s, T>> {
-        // SAFETY: the thread has the lane alone. The rest is the caller's.
-        unsafe { Own::of(Near::new(self.post(), NonNull::from(segment))) }
+    pub(super) fn near(self) -> Own<'s, T, Near<'s, T>> {
+        // SAFETY: the thread has the lane alone; and it is its segment.
+        unsafe { Own::of(Near::new(self.post(), NonNull::from(self.segment()))) }
     }
 
     /// The lane in this or another segment, if that has so many.
@@ -271,8 +272,8 @@ impl<'s, T: Clear, P: Stands<'s, T>> Own<'s, T, P> {
     #[inline(always)]
     pub(super) unsafe fn within(self, segment: &'s Segment<T>) -> Option<Own<'s, T, Near<'s, T>>> {
         if ptr::eq(self.post().segment(), segment) {
-            // SAFETY: it is its segment.
-            return Some(unsafe { self.beside(segment) });
+            // SAFETY: the thread has the lane alone; and it is its segment.
+            return Some(unsafe { Own::of(Near::new(self.post(), NonNull::from(segment))) });
         }
         let near = segment.near_of(self.post().number())?;
         // SAFETY: who has a lane has it in each segment.

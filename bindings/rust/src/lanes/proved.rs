@@ -65,7 +65,8 @@ pub(super) unsafe fn cell<O>() -> Whole<O> {
 /// What a filling is made of: its key, where the key's place stands, and where its object does.
 pub(super) type Parts<T> = (u64, u32, NonNull<T>);
 
-/// A create of the proved pool.
+/// A create of the proved pool. `count` is called once there is a filling, before its object is emptied: behind that what is written into
+/// the object comes at once, so that the compiler knows how it is.
 ///
 /// # Safety
 ///
@@ -75,8 +76,10 @@ pub(super) unsafe fn create<T: Clear + Default, O: Stored<T>>(
     pool: &Pool<O>,
     lane: &mut Lane<O>,
     source: &mut Source<T>,
+    count: impl FnOnce(),
 ) -> Result<Parts<T>, CreateFault> {
     let (key, start, _) = pool.create(lane)?.spend();
+    count();
     // SAFETY: the filling's place stands there, and the rest is the caller's.
     let object = unsafe { O::begin(place_at(lane, start), source) };
     Ok((key, start, object))
@@ -99,10 +102,7 @@ unsafe fn place_at<O: slotcell::Clear>(lane: &Lane<O>, start: u32) -> NonNull<O>
 ///
 /// A create of this lane gave the parts, which are spent here.
 #[inline(always)]
-pub(super) unsafe fn filling<T, O: Stored<T>>(
-    lane: &Lane<O>,
-    (key, start, object): Parts<T>,
-) -> Filling<O> {
+unsafe fn filling<T, O: Stored<T>>(lane: &Lane<O>, (key, start, object): Parts<T>) -> Filling<O> {
     // SAFETY: the caller's.
     unsafe { O::end(place_at(lane, start), object) };
     let directory = lane.state.objects.base();
@@ -141,6 +141,38 @@ pub(super) unsafe fn release<O: slotcell::Clear>(
     unsafe { pool.grid.table.shared.has_word(life_at(start as usize)) };
     let reference = Ref::to(key, start, &lane.state.places);
     pool.release_with(lane, reference, emptier);
+}
+
+/// A publish of the proved pool.
+///
+/// # Safety
+///
+/// A create of this lane gave the parts, which are spent here.
+#[inline(always)]
+pub(super) unsafe fn publish<T, O: Stored<T>>(pool: &Pool<O>, lane: &mut Lane<O>, parts: Parts<T>) {
+    // SAFETY: the caller's.
+    let proved = unsafe { filling(lane, parts) };
+    // SAFETY: the filling's place is one of the pool's, whose word its create has reached.
+    unsafe { pool.grid.table.shared.has_word(life_at(parts.1 as usize)) };
+    pool.publish(lane, proved);
+}
+
+/// A publish with a reference: where its place stands.
+///
+/// # Safety
+///
+/// As of [`publish`].
+#[inline(always)]
+pub(super) unsafe fn downgrade<T, O: Stored<T>>(
+    pool: &Pool<O>,
+    lane: &mut Lane<O>,
+    parts: Parts<T>,
+) -> u32 {
+    // SAFETY: the caller's.
+    let proved = unsafe { filling(lane, parts) };
+    // SAFETY: the filling's place is one of the pool's, whose word its create has reached.
+    unsafe { pool.grid.table.shared.has_word(life_at(parts.1 as usize)) };
+    pool.downgrade(lane, proved).start
 }
 
 /// How many places the next page of a lane has, where a create would open one.

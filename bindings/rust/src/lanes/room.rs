@@ -3,6 +3,7 @@ use super::lock::rest;
 use super::seat::Post;
 use super::segment::{row_for, Segment, Sight};
 use super::sizes::{opens_for_many, shape_of, shares_home_behind, FOR_LANES, LANES, SHARED};
+use super::threads;
 use super::who::{first_bits, Lanes};
 use crate::clear::Clear;
 use crate::erased::keybits::{tag_of, GREATEST_TAG, MOST_LANES};
@@ -143,11 +144,11 @@ impl<T: Clear> Room<T> {
         shared: u64,
         growth: Option<Growth>,
     ) -> Result<Fixed<Room<T>>, OpenError> {
-        static NEXT: AtomicU64 = AtomicU64::new(1);
+        static NEXT: AtomicU64 = AtomicU64::new(threads::STEP);
         let mut creates = row_for(lanes as usize)?;
         creates.resize_with(lanes as usize, Creates::new);
         let room = Fixed::new(Room {
-            id: NEXT.fetch_add(1, Ordering::Relaxed),
+            id: NEXT.fetch_add(threads::STEP, Ordering::Relaxed),
             at: AtomicPtr::new(ptr::null_mut()),
             lanes: Lanes::new(lanes, shared)?,
             segments: [const { Later::new() }; TAGS],

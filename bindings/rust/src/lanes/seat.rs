@@ -259,6 +259,24 @@ impl<'s, T: Clear> Post<'s, T> {
         self.seat().number
     }
 
+    /// Its lane has a filling more; and one less. (This thread alone uses it.)
+    #[inline(always)]
+    pub(super) fn begins_filling(self) {
+        self.add_fillings(1);
+    }
+
+    #[inline(always)]
+    pub(super) fn ends_filling(self) {
+        self.add_fillings(u32::MAX);
+    }
+
+    #[inline(always)]
+    fn add_fillings(self, more: u32) {
+        let fillings = &self.seat().fillings;
+        let now = fillings.load(Ordering::Relaxed);
+        fillings.store(now.wrapping_add(more), Ordering::Relaxed);
+    }
+
     /// A block of the seat's that the lane of this number returns.
     pub(super) fn come_home(self, from: u32, block: Block<T>) {
         let ways = self.segment().returned_to(self.number());

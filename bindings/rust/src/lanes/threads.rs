@@ -31,6 +31,14 @@ impl Drop for Kept {
 /// Of how many pools a thread knows at once which lane is its own, and which shared one it called last.
 const POOLS: usize = 8;
 
+/// Pools' numbers are multiples of this, the size of an entry. So where the entry stands is a part of the number.
+pub(super) const STEP: u64 = mem::size_of::<(u64, NonNull<()>)>().next_power_of_two() as u64;
+
+#[inline(always)]
+fn entry_of(pool: u64) -> usize {
+    (pool / STEP) as usize % POOLS
+}
+
 /// An entry of no pool.
 const NONE: (u64, NonNull<()>) = (0, NonNull::dangling());
 
@@ -52,7 +60,7 @@ const FIRST_HELD_BACK: u64 = 16;
 const MOST_HELD_BACK: u64 = 4096;
 
 thread_local! {
-    /// By the last digit of a pool's number: the pool, and where the seat stands of the thread's lane that had a place last. The number
+    /// By the last digits of a pool's number: the pool, and where the seat stands of the thread's lane that had a place last. The number
     /// with each bit turned over, where it found none, and shares; with one more, where it lends its lane.
     static LAST: [Cell<(u64, NonNull<()>)>; POOLS] = const { [const { Cell::new(NONE) }; POOLS] };
     /// Likewise: the pool, and the number of the shared lane that the thread called last.
@@ -73,42 +81,42 @@ thread_local! {
 /// Where the seat stands of the thread's lane of this pool that had a place last; if that is known.
 #[inline(always)]
 pub(super) fn last(pool: u64) -> Option<NonNull<()>> {
-    let (last, at) = LAST.with(|all| all[pool as usize % POOLS].get());
+    let (last, at) = LAST.with(|all| all[entry_of(pool)].get());
     (last == pool).then_some(at)
 }
 
 /// Whether the thread found no lane of this pool, and shares; if that is known.
 pub(super) fn shares(pool: u64) -> bool {
-    LAST.with(|all| all[pool as usize % POOLS].get()).0 == !pool
+    LAST.with(|all| all[entry_of(pool)].get()).0 == !pool
 }
 
 /// # Safety
 ///
 /// The thread keeps the lane of this seat, in the pool of this number.
 pub(super) unsafe fn set_last(pool: u64, at: NonNull<()>) {
-    LAST.with(|all| all[pool as usize % POOLS].set((pool, at)));
+    LAST.with(|all| all[entry_of(pool)].set((pool, at)));
 }
 
 /// The thread has no lane of this pool.
 pub(super) fn set_shares(pool: u64) {
-    LAST.with(|all| all[pool as usize % POOLS].set((!pool, NONE.1)));
+    LAST.with(|all| all[entry_of(pool)].set((!pool, NONE.1)));
 }
 
 /// The shared lane of this pool that the thread called last, where that is known.
 #[inline(always)]
 pub(super) fn last_shared(pool: u64) -> Option<u32> {
-    let (last, number) = LAST_SHARED.with(|all| all[pool as usize % POOLS].get());
+    let (last, number) = LAST_SHARED.with(|all| all[entry_of(pool)].get());
     (last == pool).then_some(number)
 }
 
 #[inline]
 pub(super) fn set_last_shared(pool: u64, number: u32) {
-    LAST_SHARED.with(|all| all[pool as usize % POOLS].set((pool, number)));
+    LAST_SHARED.with(|all| all[entry_of(pool)].set((pool, number)));
 }
 
 /// The lane isn't shared any more.
 pub(super) fn unset_last_shared(pool: u64) {
-    LAST_SHARED.with(|all| all[pool as usize % POOLS].set((0, 0)));
+    LAST_SHARED.with(|all| all[entry_of(pool)].set((0, 0)));
 }
 
 /// Whether the thread has left its lanes: it runs the last drops of its thread-locals.
@@ -139,7 +147,7 @@ pub(super) fn lend(pool: u64) {
 #[inline(always)]
 fn mark(from: u64, to: u64) {
     LAST.with(|all| {
-        let entry = &all[from as usize % POOLS];
+        let entry = &all[entry_of(from)];
         let (last, at) = entry.get();
         if last == from {
             entry.set((to, at));
@@ -300,7 +308,7 @@ pub(super) fn keep(pool: u64, number: Number, homes: &Counted<Homes>) -> Result<
 pub(super) unsafe fn leave(pool: u64) {
     lend_no_more();
     HINDERED.set(0);
-    LAST.with(|all| all[pool as usize % POOLS].set(NONE));
+    LAST.with(|all| all[entry_of(pool)].set(NONE));
     let left = KEPT.try_with(|kept| kept.take(|entry| entry.pool == pool));
     if let Ok(Some(Entry { number, homes, .. })) = left {
         homes.leave(number);

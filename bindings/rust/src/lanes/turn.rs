@@ -9,7 +9,7 @@ use crate::errors::{CreateError, GetError, MemoryRefused};
 use crate::key::Key;
 use crate::object::{Block, Chain, Chunk, Crowded, Placed, Source};
 use crate::shim::Ready;
-use crate::sync::{self, AtomicU32, Ordering};
+use crate::sync::{self, Ordering};
 use std::marker::PhantomData;
 use std::mem;
 use std::process;
@@ -124,13 +124,6 @@ macro_rules! call {
         call.end();
         answer
     }};
-}
-
-/// Adds to a number that one thread alone writes.
-#[inline(always)]
-fn add(number: &AtomicU32, more: u32) {
-    let now = number.load(Ordering::Relaxed);
-    number.store(now.wrapping_add(more), Ordering::Relaxed);
 }
 
 /// A block of another lane goes home to it. (Apart, and without the turn, which stays in registers.)
@@ -304,13 +297,16 @@ impl<'s, T: Clear, P: Stands<'s, T>> Turn<'s, T, P> {
         T: Default,
     {
         let mut source = self.source(brought);
+        let post = self.post();
         let created = call!(T, self, |pool, lane| {
             let has_place = match from {
                 AtHand::Listed => lane.state.free.len() > 0,
                 AtHand::Any => lane.has_free(),
             };
             // SAFETY: the source is this lane's.
-            has_place.then(|| unsafe { proved::create(pool, lane, &mut source) })
+            has_place.then(|| unsafe {
+                proved::create(pool, lane, &mut source, || post.begins_filling())
+            })
         });
         match created {
             None => Err(Short::NoPlace(source.into_block())),
@@ -335,9 +331,11 @@ impl<'s, T: Clear, P: Stands<'s, T>> Turn<'s, T, P> {
             (Some(page), _) => return Err(Apart::Page(page, brought)),
         };
         let mut source = self.source(brought);
+        let post = self.post();
         let (created, opened) = call!(T, self, |pool, lane| {
             // SAFETY: the source is this lane's.
-            let mut make = || unsafe { proved::create(pool, lane, &mut source) };
+            let mut make =
+                || unsafe { proved::create(pool, lane, &mut source, || post.begins_filling()) };
             let created = match ready {
                 Some(ready) => ready.within(make),
                 None => make(),
@@ -362,7 +360,6 @@ impl<'s, T: Clear, P: Stands<'s, T>> Turn<'s, T, P> {
                 return Err(fault.into());
             }
         };
-        add(&self.post().seat().fillings, 1);
         let place = (Key::proved(key), start);
         let way = W::of(self.at.segment());
         Ok(Begun::new(self.post(), place, object, way))
@@ -371,7 +368,7 @@ impl<'s, T: Clear, P: Stands<'s, T>> Turn<'s, T, P> {
     /// What a filling that ends is made of.
     #[inline(always)]
     fn spend<W>(&mut self, begun: Begun<'_, T, W>) -> Parts<T> {
-        add(&self.post().seat().fillings, u32::MAX);
+        self.post().ends_filling();
         begun.into_proved()
     }
 
@@ -420,10 +417,9 @@ impl<'s, T: Clear, P: Stands<'s, T>> Turn<'s, T, P> {
     pub(super) unsafe fn publish<W>(&mut self, begun: Begun<'_, T, W>) -> Key {
         let key = begun.key();
         let parts = self.spend(begun);
-        call!(T, self, |pool, lane| {
-            // SAFETY: the caller's.
-            let proved = unsafe { proved::filling(lane, parts) };
-            pool.publish(lane, proved);
+        // SAFETY: the caller's.
+        call!(T, self, |pool, lane| unsafe {
+            proved::publish(pool, lane, parts)
         });
         key
     }
@@ -443,10 +439,9 @@ impl<'s, T: Clear, P: Stands<'s, T>> Turn<'s, T, P> {
         }
         let (post, key, object, way) = (begun.post(), begun.key(), begun.address(), begun.way);
         let parts = self.spend(begun);
-        let start = call!(T, self, |pool, lane| {
-            // SAFETY: the caller's.
-            let proved = unsafe { proved::filling(lane, parts) };
-            pool.downgrade(lane, proved).start
+        // SAFETY: the caller's.
+        let start = call!(T, self, |pool, lane| unsafe {
+            proved::downgrade(pool, lane, parts)
         });
         Ok(Held::new(post, (key, start), object, way))
     }

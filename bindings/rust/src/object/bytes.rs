@@ -1,6 +1,7 @@
 //! A row of bytes that grows, and each byte of which is written: zeros at first.
 use crate::errors::MemoryRefused;
-use std::alloc::{alloc_zeroed, dealloc, realloc, Layout};
+use crate::shim::MUCH;
+use std::alloc::{alloc, alloc_zeroed, dealloc, realloc, Layout};
 use std::ops::{Deref, DerefMut};
 use std::ptr::NonNull;
 use std::slice;
@@ -32,17 +33,20 @@ impl Bytes {
         if layout.size() == 0 {
             return Ok(());
         }
+        let are_zeros = self.count == 0 && count >= MUCH;
         let at = match self.layout() {
             // SAFETY: the layout has bytes.
-            None => unsafe { alloc_zeroed(layout) },
+            None if are_zeros => unsafe { alloc_zeroed(layout) },
+            // SAFETY: as above.
+            None => unsafe { alloc(layout) },
             // SAFETY: the memory is of this layout, and the new size is no larger than a layout may be.
             Some(before) => unsafe { realloc(self.at.as_ptr(), before, count) },
         };
         self.at = NonNull::new(at).ok_or(MemoryRefused)?;
-        // SAFETY: there is memory for so many. (Of `alloc_zeroed` it has zeros.)
-        unsafe {
-            let behind = self.at.as_ptr().add(self.count);
-            if self.count != 0 {
+        if !are_zeros {
+            // SAFETY: there is memory for so many.
+            unsafe {
+                let behind = self.at.as_ptr().add(self.count);
                 behind.write_bytes(0, count - self.count);
             }
         }
@@ -87,6 +91,27 @@ impl Drop for Bytes {
         if let Some(layout) = self.layout() {
             // SAFETY: the memory is of this layout.
             unsafe { dealloc(self.at.as_ptr(), layout) };
+        }
+    }
+}
+
+#[cfg(test)]
+mod tests {
+    use super::*;
+
+    /// Memory that was used before, which an allocator gives again.
+    #[test]
+    fn each_byte_is_zero_at_first() {
+        for count in [1, 72, 1000, MUCH - 1, MUCH] {
+            drop(vec![7_u8; count]);
+            let mut bytes = Bytes::new();
+            bytes.grow(count).expect("memory");
+            assert_eq!(*bytes, vec![0; count]);
+            bytes.fill(7);
+            drop(vec![7_u8; 2 * count]);
+            bytes.grow(count + 1).expect("memory");
+            assert_eq!(bytes[..count], vec![7; count]);
+            assert_eq!(bytes[count..], vec![0; count]);
         }
     }
 }

@@ -5,7 +5,7 @@ use crate::erased::slotcell;
 use crate::shim::Global;
 use crate::sync;
 use std::mem::{self, MaybeUninit};
-use std::ptr::{self, NonNull};
+use std::ptr::NonNull;
 
 /// What the proved pool takes for its object of a plain type: the object itself, or zeros in a place that never had one. It stays there as
 /// it is until the next filling of the place begins; or goes to the lane's next filling of any place, if it is the one that the lane emptied
@@ -27,25 +27,44 @@ impl<T> Placed<T> {
         (0..count).fold(0, |all, index| all | word(index)) != 0
     }
 
-    /// Has what another place had, which gets what this one has.
+    /// Has what another place had, which gets what this one has. (It may be this one: then nothing changes.)
     ///
     /// # Safety
     ///
-    /// The other is there, and nobody else reaches it meanwhile; or it is this one.
+    /// The other is there, and nobody else reaches it meanwhile.
     #[inline(always)]
     unsafe fn change_with(&mut self, other: NonNull<Placed<T>>) {
-        if !ptr::eq(self, other.as_ptr()) {
-            sync::writes(other.as_ptr(), "place");
-            let object = MaybeUninit::uninit();
-            let mut mine = Placed { object };
-            // SAFETY: the caller's, and they are two. (By way of a third, so that the compiler moves long words.)
-            unsafe {
-                ptr::copy_nonoverlapping(self, &mut mine, 1);
-                ptr::copy_nonoverlapping(other.as_ptr(), self, 1);
-                other.as_ptr().write(mine);
-            }
+        sync::writes(other.as_ptr(), "place");
+        let (size, both) = (mem::size_of::<T>(), [NonNull::from(self), other]);
+        // SAFETY: the caller's. (Long words first.)
+        unsafe {
+            let begin = exchange::<u128, _>(both, 0, size);
+            let end = exchange::<usize, _>(both, begin, size);
+            debug_assert_eq!(end, size);
         }
     }
+}
+
+/// Two places exchange what they have from this byte on, by words that are read into registers, as far as such words fit. Answers how far that is.
+///
+/// # Safety
+///
+/// They have so many bytes, and nobody else reaches them meanwhile.
+#[inline(always)]
+unsafe fn exchange<W, T>(both: [NonNull<T>; 2], begin: usize, size: usize) -> usize {
+    let mut at = begin;
+    while at + mem::size_of::<W>() <= size {
+        // SAFETY: the caller's. (What isn't a number stays what it is.)
+        unsafe {
+            let [one, other] =
+                both.map(|it| it.cast::<u8>().as_ptr().add(at).cast::<MaybeUninit<W>>());
+            let (mine, its) = (one.read_unaligned(), other.read_unaligned());
+            one.write_unaligned(its);
+            other.write_unaligned(mine);
+        }
+        at += mem::size_of::<W>();
+    }
+    at
 }
 
 impl<T> Stored<T> for Placed<T> {

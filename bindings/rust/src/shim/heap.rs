@@ -40,7 +40,7 @@ pub(crate) fn zeroed<T>(count: usize) -> Option<NonNull<T>> {
 }
 
 /// So much memory costs an allocator no more if it is zeroed.
-const MUCH: usize = 16_384;
+pub(crate) const MUCH: usize = 16_384;
 
 /// Memory for so many values, which have bytes, and whether it is zeroed. None where it was refused.
 pub(super) fn memory<T>(count: usize) -> Option<(NonNull<T>, bool)> {

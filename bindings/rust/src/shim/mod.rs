@@ -17,7 +17,7 @@ pub(crate) mod trace;
 
 pub(crate) use array::ArrayVec;
 pub(crate) use block::RowBlock;
-pub(crate) use heap::{AllocError, Allocator, Box, Global};
+pub(crate) use heap::{AllocError, Allocator, Box, Global, MUCH};
 pub(crate) use ready::Ready;
 pub(crate) use rows::{no_bytes, release, reserve, Gapless, Lease, Slots, Vec};
 pub(crate) use table::{Closed, Seat, Table};
