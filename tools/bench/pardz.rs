@@ -22,22 +22,22 @@ impl Default for Pardz {
 impl Store for Pardz {
     type Handle = Key;
 
-    #[inline]
+    #[inline(always)]
     fn put(&self) -> Key {
         self.0.put(&BYTES).expect("memory")
     }
 
-    #[inline]
+    #[inline(always)]
     fn read(&self, key: &Key) -> usize {
         self.0.get(*key).map_or(0, |bytes| bytes.len())
     }
 
-    #[inline]
+    #[inline(always)]
     fn take(&self, key: Key) -> bool {
         self.0.clear(key)
     }
 
-    #[inline]
+    #[inline(always)]
     fn read_last(&self, key: Key) -> usize {
         let bytes = self.0.get(key);
         self.0.clear(key);
@@ -67,24 +67,24 @@ impl Default for Owned {
 impl Store for Owned {
     type Handle = Key;
 
-    #[inline]
+    #[inline(always)]
     fn put(&self) -> Key {
         let mut filling = self.0.create_owned().expect("memory");
         filling.append(&BYTES).expect("memory");
         filling.publish()
     }
 
-    #[inline]
+    #[inline(always)]
     fn read(&self, key: &Key) -> usize {
         self.0.get_owned(*key).map_or(0, |bytes| bytes.len())
     }
 
-    #[inline]
+    #[inline(always)]
     fn take(&self, key: Key) -> bool {
         self.0.clear(key)
     }
 
-    #[inline]
+    #[inline(always)]
     fn read_last(&self, key: Key) -> usize {
         let bytes = self.0.get_owned(key);
         self.0.clear(key);
@@ -108,17 +108,17 @@ struct ByLane<'p>(Lane<'p>);
 impl Store for ByLane<'_> {
     type Handle = Key;
 
-    #[inline]
+    #[inline(always)]
     fn put(&self) -> Key {
         self.0.put(&BYTES).expect("memory")
     }
 
-    #[inline]
+    #[inline(always)]
     fn read(&self, key: &Key) -> usize {
         self.0.get(*key).map_or(0, |bytes| bytes.len())
     }
 
-    #[inline]
+    #[inline(always)]
     fn take(&self, key: Key) -> bool {
         self.0.clear(key)
     }

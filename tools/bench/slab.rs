@@ -20,12 +20,12 @@ impl Clear for Buffer {
 }
 
 impl Pooled for Buffer {
-    #[inline]
+    #[inline(always)]
     fn fill(&mut self) {
         self.0.extend_from_slice(&BYTES);
     }
 
-    #[inline]
+    #[inline(always)]
     fn size(&self) -> usize {
         self.0.len()
     }
@@ -33,12 +33,12 @@ impl Pooled for Buffer {
 
 /// A vector, for which the library has a `Clear` of its own.
 impl Pooled for Vec<u8> {
-    #[inline]
+    #[inline(always)]
     fn fill(&mut self) {
         self.extend_from_slice(&BYTES);
     }
 
-    #[inline]
+    #[inline(always)]
     fn size(&self) -> usize {
         self.len()
     }
@@ -57,12 +57,12 @@ impl Clear for Large {
 }
 
 impl Pooled for Large {
-    #[inline]
+    #[inline(always)]
     fn fill(&mut self) {
         self.0.extend_from_slice(&LARGE);
     }
 
-    #[inline]
+    #[inline(always)]
     fn size(&self) -> usize {
         self.0.len()
     }
@@ -76,20 +76,20 @@ pub struct Record {
 }
 
 impl Clear for Record {
-    #[inline]
+    #[inline(always)]
     fn clear(&mut self) {
         self.count = 0;
     }
 }
 
 impl Pooled for Record {
-    #[inline]
+    #[inline(always)]
     fn fill(&mut self) {
         self.numbers[self.count] = 7;
         self.count += 1;
     }
 
-    #[inline]
+    #[inline(always)]
     fn size(&self) -> usize {
         self.count * 8
     }
@@ -102,23 +102,23 @@ pub struct Slab<T: Pooled>(Pool<T>);
 impl<T: Pooled> Store for Slab<T> {
     type Handle = u64;
 
-    #[inline]
+    #[inline(always)]
     fn put(&self) -> u64 {
         let key = self.0.create_with(T::fill);
         key.expect("the pool isn't full") as u64
     }
 
-    #[inline]
+    #[inline(always)]
     fn read(&self, key: &u64) -> usize {
         self.0.get(*key as usize).map_or(0, |object| object.size())
     }
 
-    #[inline]
+    #[inline(always)]
     fn take(&self, key: u64) -> bool {
         self.0.clear(key as usize)
     }
 
-    #[inline]
+    #[inline(always)]
     fn read_last(&self, key: u64) -> usize {
         let object = self.0.get(key as usize);
         self.0.clear(key as usize);
@@ -143,7 +143,7 @@ pub struct Owned<T: Pooled>(Arc<Pool<T>>);
 impl<T: Pooled> Store for Owned<T> {
     type Handle = u64;
 
-    #[inline]
+    #[inline(always)]
     fn put(&self) -> u64 {
         let item = Arc::clone(&self.0).create_owned();
         let mut item = item.expect("the pool isn't full");
@@ -151,18 +151,18 @@ impl<T: Pooled> Store for Owned<T> {
         item.key() as u64
     }
 
-    #[inline]
+    #[inline(always)]
     fn read(&self, key: &u64) -> usize {
         let item = Arc::clone(&self.0).get_owned(*key as usize);
         item.map_or(0, |object| object.size())
     }
 
-    #[inline]
+    #[inline(always)]
     fn take(&self, key: u64) -> bool {
         self.0.clear(key as usize)
     }
 
-    #[inline]
+    #[inline(always)]
     fn read_last(&self, key: u64) -> usize {
         let item = Arc::clone(&self.0).get_owned(key as usize);
         self.0.clear(key as usize);

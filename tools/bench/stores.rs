@@ -7,7 +7,7 @@ use std::sync::{Arc, Mutex, MutexGuard};
 /// The bytes of each buffer.
 pub const BYTES: [u8; 64] = [7; 64];
 
-/// Keeps buffers: for many threads where it is `Sync`.
+/// Keeps buffers: for many threads where it is `Sync`. Its calls are always in line, as a program makes them where it wants them.
 pub trait Store {
     /// What names a buffer that was put.
     type Handle: Send + Sync;
@@ -22,7 +22,7 @@ pub trait Store {
     fn take(&self, handle: Self::Handle) -> bool;
 
     /// How many bytes a buffer has, which is taken away while it is read; where a store has no references, after that.
-    #[inline]
+    #[inline(always)]
     fn read_last(&self, handle: Self::Handle) -> usize {
         let bytes = self.read(&handle);
         self.take(handle);
@@ -56,7 +56,7 @@ impl Store for Map {
     type Handle = u64;
 
     /// The buffer is filled before the lock is taken.
-    #[inline]
+    #[inline(always)]
     fn put(&self) -> u64 {
         let buffer = BYTES.to_vec();
         let mut buffers = locked(&self.0);
@@ -66,13 +66,13 @@ impl Store for Map {
         key
     }
 
-    #[inline]
+    #[inline(always)]
     fn read(&self, key: &u64) -> usize {
         locked(&self.0).by_key.get(key).map_or(0, Vec::len)
     }
 
     /// The buffer is dropped when the lock is free again.
-    #[inline]
+    #[inline(always)]
     fn take(&self, key: u64) -> bool {
         let taken = locked(&self.0).by_key.remove(&key);
         taken.is_some()
@@ -108,14 +108,14 @@ struct Place {
 
 impl Places {
     /// The place of a key whose buffer is there.
-    #[inline]
+    #[inline(always)]
     fn at(&mut self, key: u64) -> Option<&mut Place> {
         let place = self.all.get_mut(key as u32 as usize)?;
         (place.is_there && place.generation == (key >> 32) as u32).then_some(place)
     }
 
     /// A place that is free.
-    #[inline]
+    #[inline(always)]
     fn free(&mut self) -> u32 {
         self.free.pop().unwrap_or_else(|| {
             self.all.push(Place {
@@ -131,7 +131,7 @@ impl Places {
 impl Store for Row {
     type Handle = u64;
 
-    #[inline]
+    #[inline(always)]
     fn put(&self) -> u64 {
         let mut places = locked(&self.0);
         let number = places.free();
@@ -142,13 +142,13 @@ impl Store for Row {
         u64::from(place.generation) << 32 | u64::from(number)
     }
 
-    #[inline]
+    #[inline(always)]
     fn read(&self, key: &u64) -> usize {
         let mut places = locked(&self.0);
         places.at(*key).map_or(0, |place| place.buffer.len())
     }
 
-    #[inline]
+    #[inline(always)]
     fn take(&self, key: u64) -> bool {
         let mut places = locked(&self.0);
         let Some(place) = places.at(key) else {
@@ -178,7 +178,7 @@ pub struct Queue(Mutex<VecDeque<Box<Vec<u8>>>>);
 impl Store for Queue {
     type Handle = Box<Vec<u8>>;
 
-    #[inline]
+    #[inline(always)]
     fn put(&self) -> Box<Vec<u8>> {
         let spare = locked(&self.0).pop_front();
         let mut buffer = spare.unwrap_or_default();
@@ -186,12 +186,12 @@ impl Store for Queue {
         buffer
     }
 
-    #[inline]
+    #[inline(always)]
     fn read(&self, buffer: &Box<Vec<u8>>) -> usize {
         black_box(buffer).len()
     }
 
-    #[inline]
+    #[inline(always)]
     fn take(&self, mut buffer: Box<Vec<u8>>) -> bool {
         buffer.clear();
         locked(&self.0).push_back(buffer);
@@ -206,7 +206,7 @@ pub struct Stack(Mutex<Vec<Vec<u8>>>);
 impl Store for Stack {
     type Handle = Vec<u8>;
 
-    #[inline]
+    #[inline(always)]
     fn put(&self) -> Vec<u8> {
         let spare = locked(&self.0).pop();
         let mut buffer = spare.unwrap_or_default();
@@ -214,12 +214,12 @@ impl Store for Stack {
         buffer
     }
 
-    #[inline]
+    #[inline(always)]
     fn read(&self, buffer: &Vec<u8>) -> usize {
         black_box(buffer).len()
     }
 
-    #[inline]
+    #[inline(always)]
     fn take(&self, mut buffer: Vec<u8>) -> bool {
         buffer.clear();
         locked(&self.0).push(buffer);
@@ -240,7 +240,7 @@ pub struct Local;
 impl Store for Local {
     type Handle = SharedBuffer;
 
-    #[inline]
+    #[inline(always)]
     fn put(&self) -> SharedBuffer {
         let spare = SPARE.with_borrow_mut(Vec::pop);
         let buffer = spare.unwrap_or_default();
@@ -249,13 +249,13 @@ impl Store for Local {
     }
 
     /// A clone of the handle is made and dropped, as where the buffer is lent to another part of a program.
-    #[inline]
+    #[inline(always)]
     fn read(&self, buffer: &SharedBuffer) -> usize {
         locked(&Arc::clone(buffer)).len()
     }
 
     /// Where another handle is left, the buffer isn't kept.
-    #[inline]
+    #[inline(always)]
     fn take(&self, mut buffer: SharedBuffer) -> bool {
         let Some(lock) = Arc::get_mut(&mut buffer) else {
             return true;
@@ -275,18 +275,18 @@ impl Store for Arcs {
     type Handle = Arc<Vec<u8>>;
 
     /// The allocation is hidden from the compiler, which would leave it out.
-    #[inline]
+    #[inline(always)]
     fn put(&self) -> Arc<Vec<u8>> {
         black_box(Arc::new(BYTES.to_vec()))
     }
 
     /// A clone of the handle is made and dropped, as where the buffer is lent to another part of a program.
-    #[inline]
+    #[inline(always)]
     fn read(&self, buffer: &Arc<Vec<u8>>) -> usize {
         black_box(&Arc::clone(buffer)).len()
     }
 
-    #[inline]
+    #[inline(always)]
     fn take(&self, buffer: Arc<Vec<u8>>) -> bool {
         drop(buffer);
         true
