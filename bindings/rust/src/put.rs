@@ -99,7 +99,7 @@ impl<T: Put + Default> Pool<T> {
     /// assert_eq!(*pool.get(key).expect("published"), *b"abc");
     /// # Ok::<(), Box<dyn std::error::Error>>(())
     /// ```
-    #[inline]
+    #[inline(always)]
     pub fn put(&self, from: &T::From) -> Result<Key, CreateError> {
         let mut filling = self.create()?;
         T::put(&mut filling, from)?;
@@ -124,7 +124,7 @@ impl<T: Put + Default> Lane<'_, T> {
     /// assert_eq!(lane.put(b"more").err(), Some(CreateError::Full));
     /// # Ok::<(), OpenError>(())
     /// ```
-    #[inline]
+    #[inline(always)]
     pub fn put(&self, from: &T::From) -> Result<Key, CreateError> {
         let mut filling = self.create()?;
         T::put(&mut filling, from)?;
