@@ -30,6 +30,17 @@ struct Board {
 }
 
 impl Board {
+    /// One with so many places, where nothing lies yet.
+    fn new(places: u64) -> Board {
+        Board {
+            places: (0..places).map(|_| Mutex::default()).collect(),
+            next: AtomicU64::new(0),
+            refused: AtomicU64::new(0),
+            wrong: AtomicU64::new(0),
+            read: AtomicU64::new(0),
+        }
+    }
+
     /// Leaves what was published, and takes what lay there.
     fn swap(&self, sent: Option<Sent>, place: u64) -> Option<Sent> {
         let place = &self.places[place as usize % self.places.len()];
@@ -112,13 +123,7 @@ fn work(caller: &Caller<'_>, board: &Board) {
 
 fn come_and_go(way: &str, threads: u64, requests: u64) -> Option<bool> {
     let pool = Pool::<String>::growing().ok()?;
-    let board = Board {
-        places: (0..4 * threads).map(|_| Mutex::default()).collect(),
-        next: AtomicU64::new(0),
-        refused: AtomicU64::new(0),
-        wrong: AtomicU64::new(0),
-        read: AtomicU64::new(0),
-    };
+    let board = Board::new(4 * threads);
     let caller = || Caller {
         pool: &pool,
         lane: (way == "lanes").then(|| pool.lane()).flatten(),

@@ -310,6 +310,18 @@ fn a_clear_takes_another_lane() {
     assert_eq!(Arc::into_inner(pool).unwrap().close().free, 4);
 }
 
+/// Publishes a link that is to let go of one that another thread lent, and lends it. Without a place for it, lets go of that one itself.
+fn take_over(lane: &Lane<'_, Link>, lent: &Mutex<Vec<Key>>) {
+    let next = lock(lent).pop();
+    let Ok(mut link) = lane.create() else {
+        next.into_iter().for_each(|next| assert!(lane.clear(next)));
+        return;
+    };
+    link.next = next;
+    let key = link.publish();
+    lock(lent).push(key);
+}
+
 /// Objects of four threads let go of each other's, by whichever lane empties them.
 #[test]
 fn threads_let_go_of_each_others() {
@@ -326,15 +338,7 @@ fn threads_let_go_of_each_others() {
             LANE.with(|lane| {
                 let lane = lane.get().unwrap();
                 for _ in 0..ROUNDS {
-                    // Takes over one that another thread made, and is to let go of it.
-                    let next = lock(&lent).pop();
-                    let Ok(mut link) = lane.create() else {
-                        next.into_iter().for_each(|next| assert!(lane.clear(next)));
-                        continue;
-                    };
-                    link.next = next;
-                    let key = link.publish();
-                    lock(&lent).push(key);
+                    take_over(lane, &lent);
                 }
             });
         })

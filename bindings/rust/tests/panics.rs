@@ -2,7 +2,8 @@
 mod common;
 
 use common::limit;
-use pardz::{Clear, CreateError, Key, Pool, Shape};
+use pardz::{Clear, CreateError, Key, Lane, Pool, Shape};
+use std::cell::{OnceCell, RefCell};
 use std::panic::{catch_unwind, AssertUnwindSafe};
 use std::sync::atomic::{AtomicUsize, Ordering::SeqCst};
 use std::sync::Arc;
@@ -229,30 +230,44 @@ fn in_drop() {
     }
 }
 
+thread_local! {
+    /// The lane of the thread, by which its nodes let go of others.
+    static LANE: OnceCell<Lane<'static, Node>> = const { OnceCell::new() };
+    /// The numbers of the nodes that were emptied.
+    static EMPTIED: RefCell<Vec<u32>> = const { RefCell::new(Vec::new()) };
+}
+
+/// Lets go of those below it when it is emptied; number 1 and number 12 panic then.
+#[derive(Default)]
+struct Node {
+    number: u32,
+    below: Vec<Key>,
+}
+
+impl Clear for Node {
+    fn clear(&mut self) {
+        EMPTIED.with_borrow_mut(|emptied| emptied.push(self.number));
+        LANE.with(|lane| {
+            for key in self.below.drain(..) {
+                assert!(lane.get().unwrap().clear(key));
+            }
+        });
+        assert!(!matches!(self.number, 1 | 12), "on purpose");
+    }
+}
+
+/// Publishes a node of this number, with these below it.
+fn publish_node(lane: &Lane<'_, Node>, number: u32, below: &[Key]) -> Key {
+    let fill = |node: &mut Node| {
+        node.number = number;
+        node.below.extend(below);
+    };
+    lane.create_with(fill).unwrap()
+}
+
 /// Where a clear lets go of others and one of them panics, the others are emptied all the same.
 #[test]
 fn in_a_clear_within_a_clear() {
-    use std::cell::{OnceCell, RefCell};
-    thread_local! {
-        static LANE: OnceCell<pardz::Lane<'static, Node>> = const { OnceCell::new() };
-        static EMPTIED: RefCell<Vec<u32>> = const { RefCell::new(Vec::new()) };
-    }
-    #[derive(Default)]
-    struct Node {
-        number: u32,
-        below: Vec<Key>,
-    }
-    impl Clear for Node {
-        fn clear(&mut self) {
-            EMPTIED.with_borrow_mut(|emptied| emptied.push(self.number));
-            LANE.with(|lane| {
-                for key in self.below.drain(..) {
-                    assert!(lane.get().unwrap().clear(key));
-                }
-            });
-            assert!(!matches!(self.number, 1 | 12), "on purpose");
-        }
-    }
     let _limit = limit();
     let pool = Arc::new(Pool::<Node>::open(shape(8)).unwrap());
     let lane = pool.lane_owned().unwrap();
@@ -260,13 +275,7 @@ fn in_a_clear_within_a_clear() {
         LANE.with(|place| assert!(place.set(lane).is_ok()));
         LANE.with(|lane| {
             let lane = lane.get().unwrap();
-            let node = |number, below: &[Key]| {
-                let fill = |node: &mut Node| {
-                    node.number = number;
-                    node.below.extend(below);
-                };
-                lane.create_with(fill).unwrap()
-            };
+            let node = |number, below: &[Key]| publish_node(lane, number, below);
             let leaves = [node(11, &[]), node(12, &[]), node(13, &[])];
             let inner = [node(1, &leaves), node(2, &[])];
             let root = node(0, &inner);

@@ -6,6 +6,57 @@ use pardz::{Buffer, CreateError, Filling, Key, Lane, Pool, Ref, Shape};
 use std::collections::HashMap;
 use std::io::Write;
 
+/// A filling, and the vector that it should be.
+struct Written<'l> {
+    filling: Filling<'l, Buffer>,
+    model: Vec<u8>,
+    /// What was put into the room that the filling lent.
+    lent: Vec<u8>,
+}
+
+impl<'l> Written<'l> {
+    /// A filling that nothing was written to.
+    fn new(filling: Filling<'l, Buffer>) -> Written<'l> {
+        Written {
+            filling,
+            model: Vec::new(),
+            lent: Vec::new(),
+        }
+    }
+
+    /// Writes drawn bytes to both in a drawn way, or compares the two.
+    fn write(&mut self, draws: &mut Draws) {
+        let bytes: Vec<u8> = (0..draws.below(40))
+            .map(|_| draws.below(256) as u8)
+            .collect();
+        match draws.below(5) {
+            0 => {
+                self.filling.append(&bytes).unwrap();
+                self.model.extend_from_slice(&bytes);
+                self.lent.clear();
+            }
+            1 => {
+                self.filling.write_all(&bytes).unwrap();
+                self.model.extend_from_slice(&bytes);
+                self.lent.clear();
+            }
+            2 => {
+                let room = self.filling.room(bytes.len()).unwrap();
+                assert!(room.iter().all(|byte| *byte == 0) && room.len() == bytes.len());
+                room.copy_from_slice(&bytes);
+                self.lent = bytes;
+            }
+            3 => {
+                let count = draws.below(self.lent.len() + 1);
+                self.filling.wrote(count);
+                self.model.extend_from_slice(&self.lent[..count]);
+                self.lent.clear();
+            }
+            _ => assert_eq!(&self.filling[..], self.model),
+        }
+    }
+}
+
 /// A filling is what a vector is that is filled in the same ways.
 #[test]
 fn fillings_beside_a_vector() {
@@ -19,39 +70,11 @@ fn fillings_beside_a_vector() {
     let lane = pool.lane().unwrap();
     let mut draws = Draws(88_172_645_463_325_252);
     for _ in 0..2000 {
-        let mut filling = lane.create().unwrap();
-        let mut model = Vec::new();
-        let mut lent = Vec::new();
+        let mut written = Written::new(lane.create().unwrap());
         for _ in 0..draws.below(20) {
-            let bytes: Vec<u8> = (0..draws.below(40))
-                .map(|_| draws.below(256) as u8)
-                .collect();
-            match draws.below(5) {
-                0 => {
-                    filling.append(&bytes).unwrap();
-                    model.extend_from_slice(&bytes);
-                    lent.clear();
-                }
-                1 => {
-                    filling.write_all(&bytes).unwrap();
-                    model.extend_from_slice(&bytes);
-                    lent.clear();
-                }
-                2 => {
-                    let room = filling.room(bytes.len()).unwrap();
-                    assert!(room.iter().all(|byte| *byte == 0) && room.len() == bytes.len());
-                    room.copy_from_slice(&bytes);
-                    lent = bytes;
-                }
-                3 => {
-                    let count = draws.below(lent.len() + 1);
-                    filling.wrote(count);
-                    model.extend_from_slice(&lent[..count]);
-                    lent.clear();
-                }
-                _ => assert_eq!(&filling[..], model),
-            }
+            written.write(&mut draws);
         }
+        let Written { filling, model, .. } = written;
         if draws.below(2) == 0 {
             let bytes = filling.downgrade();
             assert_eq!(&bytes[..], model);
@@ -78,6 +101,19 @@ struct Run<'l> {
 }
 
 impl<'l> Run<'l> {
+    /// Lanes that have nothing yet, in a pool where nothing is.
+    fn new(lanes: &'l [Lane<'l, Vec<u64>>; 2], draws: Draws) -> Run<'l> {
+        Run {
+            lanes,
+            draws,
+            fillings: Vec::new(),
+            references: Vec::new(),
+            present: HashMap::new(),
+            held: HashMap::new(),
+            old: Vec::new(),
+        }
+    }
+
     fn lane(&mut self) -> &'l Lane<'l, Vec<u64>> {
         &self.lanes[self.draws.below(2)]
     }
@@ -148,6 +184,17 @@ impl<'l> Run<'l> {
         let key = self.key();
         assert_eq!(self.lane().clear(key), self.present.remove(&key).is_some());
     }
+
+    /// Makes one of these calls, as drawn.
+    fn call(&mut self) {
+        match self.draws.below(9) {
+            0 | 1 => self.fill(),
+            2 | 3 => self.publish(),
+            4 | 5 => self.get(),
+            6 | 7 => self.release(),
+            _ => self.clear(),
+        }
+    }
 }
 
 #[test]
@@ -161,23 +208,9 @@ fn objects_beside_a_map() {
     })
     .unwrap();
     let lanes = [pool.lane().unwrap(), pool.lane().unwrap()];
-    let mut run = Run {
-        lanes: &lanes,
-        draws: Draws(1_181_783_497_276_652_981),
-        fillings: Vec::new(),
-        references: Vec::new(),
-        present: HashMap::new(),
-        held: HashMap::new(),
-        old: Vec::new(),
-    };
+    let mut run = Run::new(&lanes, Draws(1_181_783_497_276_652_981));
     for _ in 0..100_000 {
-        match run.draws.below(9) {
-            0 | 1 => run.fill(),
-            2 | 3 => run.publish(),
-            4 | 5 => run.get(),
-            6 | 7 => run.release(),
-            _ => run.clear(),
-        }
+        run.call();
     }
     assert!(run
         .references

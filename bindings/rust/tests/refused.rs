@@ -1,124 +1,15 @@
 //! Each request for memory is refused in turn: the call answers it, what was there before is there still, and in the end no memory
 //! is lost.
+#[path = "refused/heap.rs"]
+mod heap;
+
+use heap::{again, takes_none, tried, BLOCKS, GRANTED, REFUSED, REQUESTS};
 use pardz::{
     Buffer, Census, Clear, CreateError, Key, Lane, MemoryRefused, OpenError, Pool, Ref, Shape,
 };
 use std::alloc::{GlobalAlloc, Layout, System};
 use std::cell::Cell;
 use std::panic::{self, AssertUnwindSafe};
-
-/// The system's memory, which refuses one request within `tried`.
-struct Refusing;
-
-#[global_allocator]
-static HEAP: Refusing = Refusing;
-
-thread_local! {
-    /// Whether a call is looked at.
-    static LOOKS: Cell<bool> = const { Cell::new(false) };
-    /// How many requests are granted before one is refused.
-    static GRANTED: Cell<u32> = const { Cell::new(u32::MAX) };
-    static REQUESTS: Cell<u32> = const { Cell::new(0) };
-    static REFUSED: Cell<u32> = const { Cell::new(0) };
-    /// The blocks of this thread that are not freed.
-    static BLOCKS: Cell<isize> = const { Cell::new(0) };
-}
-
-/// Whether this request is granted.
-fn grants() -> bool {
-    if !LOOKS.get() {
-        return true;
-    }
-    REQUESTS.set(REQUESTS.get() + 1);
-    match GRANTED.get() {
-        0 => {
-            GRANTED.set(u32::MAX);
-            REFUSED.set(REFUSED.get() + 1);
-            false
-        }
-        left => {
-            GRANTED.set(left.saturating_sub(u32::from(left != u32::MAX)));
-            true
-        }
-    }
-}
-
-/// A block that was granted counts.
-fn counted(block: *mut u8) -> *mut u8 {
-    BLOCKS.set(BLOCKS.get() + isize::from(!block.is_null()));
-    block
-}
-
-// SAFETY: each block is the system's, or null, as a refusal is told.
-unsafe impl GlobalAlloc for Refusing {
-    unsafe fn alloc(&self, layout: Layout) -> *mut u8 {
-        if grants() {
-            // SAFETY: the caller keeps what `System` asks.
-            counted(unsafe { System.alloc(layout) })
-        } else {
-            std::ptr::null_mut()
-        }
-    }
-
-    unsafe fn alloc_zeroed(&self, layout: Layout) -> *mut u8 {
-        if grants() {
-            // SAFETY: the caller keeps what `System` asks.
-            counted(unsafe { System.alloc_zeroed(layout) })
-        } else {
-            std::ptr::null_mut()
-        }
-    }
-
-    unsafe fn realloc(&self, block: *mut u8, layout: Layout, size: usize) -> *mut u8 {
-        if grants() {
-            // SAFETY: the caller keeps what `System` asks.
-            unsafe { System.realloc(block, layout, size) }
-        } else {
-            std::ptr::null_mut()
-        }
-    }
-
-    unsafe fn dealloc(&self, block: *mut u8, layout: Layout) {
-        BLOCKS.set(BLOCKS.get() - 1);
-        // SAFETY: the caller keeps what `System` asks.
-        unsafe { System.dealloc(block, layout) }
-    }
-}
-
-/// A call that is looked at.
-fn tried<R>(call: impl FnOnce() -> R) -> R {
-    LOOKS.set(true);
-    let answer = call();
-    LOOKS.set(false);
-    answer
-}
-
-/// A call that asks for no memory.
-fn takes_none<R>(call: impl FnOnce() -> R) -> R {
-    let before = REQUESTS.get();
-    let answer = tried(call);
-    assert_eq!(REQUESTS.get(), before, "the call asked for memory");
-    answer
-}
-
-/// A call that may be refused memory, and then answers this; made once more, it succeeds, as nothing was lost.
-fn again<R, E: PartialEq + std::fmt::Debug>(
-    refusal: E,
-    mut call: impl FnMut() -> Result<R, E>,
-) -> R {
-    let before = REFUSED.get();
-    match tried(&mut call) {
-        Ok(answer) => {
-            assert_eq!(REFUSED.get(), before, "a refusal was passed over");
-            answer
-        }
-        Err(fault) => {
-            assert_eq!(fault, refusal);
-            assert_eq!(REFUSED.get(), before + 1, "nothing was refused");
-            call().expect("the same call once more")
-        }
-    }
-}
 
 const SHAPE: Shape = Shape {
     lanes: 3,
@@ -160,11 +51,8 @@ fn reads<'l>(lane: &'l Lane<'_>, key: Key, content: &[u8]) -> Ref<'l> {
     reference
 }
 
-fn buffers() {
-    let pool = again(OpenError::Memory, || Pool::<Buffer>::open(SHAPE));
-    let one = takes_none(|| pool.lane()).expect("a lane");
-    let other = takes_none(|| pool.lane()).expect("a second");
-    // Each place once: both pages.
+/// Each place of a lane has a buffer once, of both pages; another lane reads it, as it is cleared.
+fn each_place(one: &Lane, other: &Lane) {
     let mut keys = [None; 6];
     for (number, key) in keys.iter_mut().enumerate() {
         let content = [number as u8; 40];
@@ -180,12 +68,19 @@ fn buffers() {
         other => other.map(|_| panic!("a seventh place")),
     });
     for (number, key) in keys.iter().flatten().enumerate() {
-        let reference = reads(&other, *key, &[number as u8; 40]);
+        let reference = reads(other, *key, &[number as u8; 40]);
         assert!(takes_none(|| one.clear(*key)));
         assert!(takes_none(|| one.get(*key)).is_none());
         assert_eq!(reference[..], [number as u8; 40]);
         takes_none(|| drop(reference));
     }
+}
+
+fn buffers() {
+    let pool = again(OpenError::Memory, || Pool::<Buffer>::open(SHAPE));
+    let one = takes_none(|| pool.lane()).expect("a lane");
+    let other = takes_none(|| pool.lane()).expect("a second");
+    each_place(&one, &other);
     // Once more, in the rooms of the first, by a copy of the content.
     let key = again(CreateError::Memory, || one.put(&[9; 40]));
     let left = again(CreateError::Memory, || one.create());
@@ -208,10 +103,8 @@ fn buffers() {
         retired,
     } = census;
     assert_eq!(free + unopened + filling + present + marked + retired, 18);
-    assert_eq!(
-        (unopened, filling, present, marked, retired),
-        (12, 1, 1, 0, 0)
-    );
+    let others = (unopened, filling, present, marked, retired);
+    assert_eq!(others, (12, 1, 1, 0, 0));
 }
 
 fn texts() {

@@ -58,27 +58,34 @@ fn a_type_without_bytes() {
     assert_eq!(CLEARED.load(SeqCst), 40);
 }
 
+/// One byte, aligned to a kilobyte.
+#[repr(align(1024))]
+#[derive(Default)]
+struct Aligned(u8);
+
+impl Clear for Aligned {
+    fn clear(&mut self) {
+        self.0 = 0;
+    }
+}
+
+/// Eighty thousand bytes.
+struct Large([u64; 10_000]);
+
+impl Default for Large {
+    fn default() -> Large {
+        Large([0; 10_000])
+    }
+}
+
+impl Clear for Large {
+    fn clear(&mut self) {
+        self.0.fill(0);
+    }
+}
+
 #[test]
 fn aligned_and_large() {
-    #[repr(align(1024))]
-    #[derive(Default)]
-    struct Aligned(u8);
-    impl Clear for Aligned {
-        fn clear(&mut self) {
-            self.0 = 0;
-        }
-    }
-    struct Large([u64; 10_000]);
-    impl Default for Large {
-        fn default() -> Large {
-            Large([0; 10_000])
-        }
-    }
-    impl Clear for Large {
-        fn clear(&mut self) {
-            self.0.fill(0);
-        }
-    }
     let (aligned, large) = (
         Pool::<Aligned>::open(shape(1, 8)).unwrap(),
         Pool::<Large>::open(shape(1, 2)).unwrap(),
