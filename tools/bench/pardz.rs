@@ -11,6 +11,28 @@ fn key_of(word: u64) -> Key {
     Key::try_from(word).expect("a key")
 }
 
+/// A store's calls by a pool, or by a lane in hand, which are the same.
+macro_rules! calls {
+    () => {
+        type Handle = Key;
+
+        #[inline(always)]
+        fn put(&self) -> Key {
+            self.0.put(&BYTES).expect("memory")
+        }
+
+        #[inline(always)]
+        fn read(&self, key: &Key) -> usize {
+            self.0.get(*key).map_or(0, |bytes| bytes.len())
+        }
+
+        #[inline(always)]
+        fn take(&self, key: Key) -> bool {
+            self.0.clear(key)
+        }
+    };
+}
+
 pub struct Pardz(Pool<Buffer>);
 
 impl Default for Pardz {
@@ -20,22 +42,7 @@ impl Default for Pardz {
 }
 
 impl Store for Pardz {
-    type Handle = Key;
-
-    #[inline(always)]
-    fn put(&self) -> Key {
-        self.0.put(&BYTES).expect("memory")
-    }
-
-    #[inline(always)]
-    fn read(&self, key: &Key) -> usize {
-        self.0.get(*key).map_or(0, |bytes| bytes.len())
-    }
-
-    #[inline(always)]
-    fn take(&self, key: Key) -> bool {
-        self.0.clear(key)
-    }
+    calls!();
 
     #[inline(always)]
     fn read_last(&self, key: Key) -> usize {
@@ -106,22 +113,7 @@ impl Keyed for Owned {
 struct ByLane<'p>(Lane<'p>);
 
 impl Store for ByLane<'_> {
-    type Handle = Key;
-
-    #[inline(always)]
-    fn put(&self) -> Key {
-        self.0.put(&BYTES).expect("memory")
-    }
-
-    #[inline(always)]
-    fn read(&self, key: &Key) -> usize {
-        self.0.get(*key).map_or(0, |bytes| bytes.len())
-    }
-
-    #[inline(always)]
-    fn take(&self, key: Key) -> bool {
-        self.0.clear(key)
-    }
+    calls!();
 }
 
 /// Does the rounds of this name, each thread by a lane in hand. None where there are none of the name.
