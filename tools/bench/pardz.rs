@@ -124,6 +124,16 @@ pub fn do_by_lanes(name: &str, plan: Plan) -> Option<u64> {
         "get-two" => Some(by_lanes(&pool, plan, rounds::two_gets)),
         "cycle" => Some(by_lanes(&pool, plan, rounds::cycles)),
         "cycle-two" => Some(by_lanes(&pool, plan, rounds::two_cycles)),
+        "at-once-1000" => Some(by_lanes(&pool, plan, rounds::all_at_once)),
+        "churn-1000" => Some(by_lanes(&pool, plan, |lane, count| {
+            rounds::churns(lane, count, 1000)
+        })),
+        "churn-20000" => Some(by_lanes(&pool, plan, |lane, count| {
+            rounds::churns(lane, count, 20_000)
+        })),
+        "random-100000" => Some(rounds::on_threads(plan.threads, |_| {
+            (0..plan.rounds).map(|_| one_in_random_order()).sum()
+        })),
         _ => None,
     }
 }
@@ -137,4 +147,11 @@ fn by_lanes<'p>(
         let lane = pool.lane().expect("a lane is free");
         work(&ByLane(lane), plan.rounds)
     })
+}
+
+/// A fresh pool is given buffers by one lane, which clears them in a random order, and is dropped.
+fn one_in_random_order() -> u64 {
+    let pool = growing();
+    let lane = ByLane(pool.lane().expect("a lane is free"));
+    rounds::in_random_order(&lane)
 }

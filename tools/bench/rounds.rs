@@ -223,20 +223,24 @@ pub fn get_miss<S: Keyed + Sync>(store: &S, plan: Plan) -> u64 {
 
 /// Each thread puts a thousand buffers, reads them, and takes them away.
 pub fn at_once<S: Store + Sync>(store: &S, plan: Plan) -> u64 {
-    on_threads(plan.threads, |_| {
-        let mut handles = Vec::with_capacity(AT_ONCE);
-        (0..plan.rounds)
-            .map(|_| {
-                handles.extend((0..AT_ONCE).map(|_| store.put()));
-                let bytes: usize = handles.iter().map(|handle| store.read(handle)).sum();
-                bytes
-                    + handles
-                        .drain(..)
-                        .map(|handle| usize::from(store.take(handle)))
-                        .sum::<usize>()
-            })
-            .sum::<usize>() as u64
-    })
+    on_threads(plan.threads, |_| all_at_once(store, plan.rounds))
+}
+
+/// What one thread does of it.
+#[inline]
+pub fn all_at_once<S: Store>(store: &S, rounds: u64) -> u64 {
+    let mut handles = Vec::with_capacity(AT_ONCE);
+    (0..rounds)
+        .map(|_| {
+            handles.extend((0..AT_ONCE).map(|_| store.put()));
+            let bytes: usize = handles.iter().map(|handle| store.read(handle)).sum();
+            bytes
+                + handles
+                    .drain(..)
+                    .map(|handle| usize::from(store.take(handle)))
+                    .sum::<usize>()
+        })
+        .sum::<usize>() as u64
 }
 
 /// In turn the oldest of these is taken away, and a new one put.
@@ -263,10 +267,14 @@ pub fn churn<S: Store + Sync>(store: &S, plan: Plan) -> u64 {
 
 /// The same with so many buffers.
 pub fn churn_of<S: Store + Sync>(store: &S, plan: Plan, live: usize) -> u64 {
-    on_threads(plan.threads, |_| {
-        let mut handles: Vec<Option<S::Handle>> = (0..live).map(|_| Some(store.put())).collect();
-        replace_oldest(store, &mut handles, plan.rounds)
-    })
+    on_threads(plan.threads, |_| churns(store, plan.rounds, live))
+}
+
+/// What one thread does of it.
+#[inline]
+pub fn churns<S: Store>(store: &S, rounds: u64, live: usize) -> u64 {
+    let mut handles: Vec<Option<S::Handle>> = (0..live).map(|_| Some(store.put())).collect();
+    replace_oldest(store, &mut handles, rounds)
 }
 
 /// Hands a key on, when its word is free.
@@ -396,14 +404,17 @@ pub fn page<S: Store + Sync + Default>(plan: Plan, count: usize, drops: bool) ->
 pub fn random<S: Keyed + Sync + Default>(plan: Plan) -> u64 {
     on_threads(plan.threads, |_| {
         (0..plan.rounds)
-            .map(|_| {
-                let store = S::default();
-                let mut keys: Vec<_> = (0..RANDOM).map(|_| store.put()).collect();
-                shuffle(&mut keys);
-                keys.into_iter().filter(|key| store.take(*key)).count() as u64
-            })
+            .map(|_| in_random_order(&S::default()))
             .sum()
     })
+}
+
+/// What one thread does of it with one store.
+#[inline]
+pub fn in_random_order<S: Store<Handle: Copy>>(store: &S) -> u64 {
+    let mut keys: Vec<_> = (0..RANDOM).map(|_| store.put()).collect();
+    shuffle(&mut keys);
+    keys.into_iter().filter(|key| store.take(*key)).count() as u64
 }
 
 /// A random order, always the same.
