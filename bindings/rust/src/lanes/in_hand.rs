@@ -1,8 +1,9 @@
 //! Lanes in hand, and what they give: all of it borrows them, so that they have the lane alone.
 use super::give_back::give_back;
 use super::own::Own;
-use super::seat::{Near, Post, Stands};
-use super::segment::Sight;
+use super::room::Room;
+use super::seat::{Near, Post, Seat, Stands};
+use super::segment::{Segment, Sight};
 use super::token::{Begun, By, Held, InHand, Spend, Spent};
 use super::turn::Brought;
 use super::who::Number;
@@ -10,6 +11,7 @@ use crate::clear::Clear;
 use crate::errors::{CreateError, GetError};
 use crate::key::Key;
 use crate::pool::Pool;
+use std::cell::Cell;
 use std::marker::PhantomData;
 use std::mem::ManuallyDrop;
 use std::ptr::NonNull;
@@ -17,7 +19,9 @@ use std::sync::Arc;
 
 /// A lane in hand. It comes home when it is dropped.
 pub(crate) struct Hand<'p, T: Clear> {
-    at: Near<'p, T>,
+    /// Where the lane had a place last: its seat there, and the segment of that.
+    seat: Cell<NonNull<Seat<T>>>,
+    segment: Cell<NonNull<Segment<T>>>,
     /// (Taken out by the drop alone.)
     number: ManuallyDrop<Number>,
     /// Keeps the pool open, where the lane doesn't borrow it.
@@ -46,22 +50,34 @@ impl<'p, T: Clear> Hand<'p, T> {
     unsafe fn of<'l>(pool: &Pool<T>, share: Option<Arc<Pool<T>>>) -> Option<Hand<'l, T>> {
         let first = pool.room.first().ok()?;
         let number = pool.room.take()?;
-        // SAFETY: the caller's.
-        let post = unsafe { first.post(number.get()).keep() };
-        let segment = NonNull::from(post.segment());
+        let post = first.post(number.get());
         Some(Hand {
-            // SAFETY: it is its segment.
-            at: unsafe { Near::new(post, segment) },
+            seat: Cell::new(post.pointer()),
+            segment: Cell::new(NonNull::from(first)),
             number: ManuallyDrop::new(number),
             _share: share,
             of: PhantomData,
         })
     }
 
+    /// The lane where it had a place last.
     #[inline(always)]
     fn own(&self) -> Own<'_, T, Near<'_, T>> {
+        // SAFETY: a segment stands as long as the pool, and that as long as the hand; and it is the seat's.
+        let near = unsafe { Near::new(Post::at(self.seat.get()), self.segment.get()) };
         // SAFETY: who has the number has the lane alone; the hand is borrowed, and on one thread.
-        unsafe { Own::of(self.at) }
+        unsafe { Own::of(near) }
+    }
+
+    fn room(&self) -> &Room<T> {
+        // SAFETY: as of `own`.
+        unsafe { self.segment.get().as_ref() }.room()
+    }
+
+    /// The lane had a place of this segment, or has one since this call.
+    fn had_place(&self, post: Post<'_, T>, segment: NonNull<Segment<T>>) {
+        self.seat.set(post.pointer());
+        self.segment.set(segment);
     }
 
     pub(crate) fn number(&self) -> u32 {
@@ -81,13 +97,32 @@ impl<'p, T: Clear> Hand<'p, T> {
     where
         T: Default,
     {
-        Ok(Spent::new(self.own().create(create_apart_in_any)?))
+        let apart = |own, brought| self.create_apart(own, brought);
+        Ok(Spent::new(self.own().create(apart)?))
+    }
+
+    /// A create where the lane's own list has no place: in any segment, where the next one looks first then.
+    #[cold]
+    #[inline(never)]
+    fn create_apart<'s>(
+        &'s self,
+        own: Own<'s, T, Near<'s, T>>,
+        brought: Brought<T>,
+    ) -> Result<Begun<'s, T, InHand<T>>, CreateError>
+    where
+        T: Default,
+    {
+        let created = match own.create_apart(brought) {
+            Err(CreateError::Full) => create_further(own),
+            created => created,
+        };
+        created.inspect(|begun| self.had_place(begun.post(), begun.way.segment))
     }
 
     #[inline(always)]
     pub(crate) fn get(&self, key: Key) -> Option<Spent<Held<'_, T, InHand<T>>>> {
         let own = self.own();
-        match self.at.segment().sight(key) {
+        match own.segment().sight(key) {
             Sight::There(_) => own.get(key).map(Spent::new),
             Sight::Gone => None,
             Sight::Foreign => {
@@ -115,8 +150,9 @@ impl<'p, T: Clear> Hand<'p, T> {
 
     #[inline(always)]
     pub(crate) fn clear(&self, key: Key) -> bool {
-        match self.at.segment().sight(key) {
-            Sight::There(_) => self.own().clear(key),
+        let own = self.own();
+        match own.segment().sight(key) {
+            Sight::There(_) => own.clear(key),
             Sight::Gone => false,
             Sight::Foreign => self.clear_elsewhere(key),
         }
@@ -129,7 +165,7 @@ impl<'p, T: Clear> Hand<'p, T> {
             return false;
         };
         if key.shard() == self.number() {
-            self.at.segment().room().frees_place(key);
+            self.had_place(own.post(), NonNull::from(own.segment()));
         }
         own.clear(key)
     }
@@ -137,7 +173,7 @@ impl<'p, T: Clear> Hand<'p, T> {
     /// The lane in the segment of a key.
     #[inline]
     fn own_elsewhere(&self, key: Key) -> Option<Own<'_, T, Near<'_, T>>> {
-        let segment = self.at.segment().room().segment_with(key)?;
+        let segment = self.room().segment_with(key)?;
         // SAFETY: who has the number has the lane alone, in each segment; the hand is borrowed, and on one thread.
         Some(unsafe { Own::of(segment.near_of(self.number())?) })
     }
@@ -148,23 +184,6 @@ impl<T: Clear> Drop for Hand<'_, T> {
         // SAFETY: taken out once.
         let number = unsafe { ManuallyDrop::take(&mut self.number) };
         self.own().room().come_home(number);
-    }
-}
-
-/// A create where the lane's own list has no place: in any segment.
-#[cold]
-#[inline(never)]
-fn create_apart_in_any<'s, T: Clear + Default>(
-    own: Own<'s, T, Near<'s, T>>,
-    brought: Brought<T>,
-) -> Result<Begun<'s, T, InHand<T>>, CreateError> {
-    if own.room().is_elsewhere(own.post().number()) {
-        own.take_back(brought);
-        return create_further(own);
-    }
-    match own.create_apart(brought) {
-        Err(CreateError::Full) => create_further(own),
-        created => created,
     }
 }
 

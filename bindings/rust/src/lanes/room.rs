@@ -420,11 +420,6 @@ impl<T: Clear> Room<T> {
         creates.look_again();
     }
 
-    /// Whether a lane had its last place in another segment than the first.
-    pub(super) fn is_elsewhere(&self, number: u32) -> bool {
-        self.creates_of(number).last.load(Ordering::Relaxed) != 0
-    }
-
     /// Whether this create passes a lane by, since that was found full a while ago.
     pub(super) fn passes(&self, number: u32) -> bool {
         self.creates_of(number).passes()
