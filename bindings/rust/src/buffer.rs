@@ -106,6 +106,7 @@ impl Buffer {
     #[cold]
     #[inline(never)]
     fn grow(&mut self, count: usize) -> Result<(), MemoryRefused> {
+        // (Without memory there isn't even the room that is told of.)
         if count == 0 {
             return Ok(());
         }

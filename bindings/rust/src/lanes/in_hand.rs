@@ -166,6 +166,8 @@ impl<'p, T: Clear> Hand<'p, T> {
         };
         if key.shard() == self.number() {
             self.had_place(own.post(), NonNull::from(own.segment()));
+            // (For who has the lane next.)
+            self.room().frees_place(key);
         }
         own.clear(key)
     }
