@@ -116,6 +116,20 @@ fn f(row: &mut Vec<Cell>, hand: &mut u32, count: usize) {{
 }}
 """
 
+FRESH = """fn f<T: Clear>(alloc: Global, count: u32, more: u32) -> Option<Vec<T>> {{
+    let mut row = Vec::with_capacity(alloc, {0} as usize).ok()?;
+    for _ in 0..{1} {{
+        row.push_reserved({2});
+    }}
+    Some(row)
+}}
+"""
+FRESH_WRITTEN = """fn f<T: Clear>(alloc: Global, count: u32, more: u32) -> Option<Vec<T>> {
+    let row = unsafe { Vec::fresh(alloc, count as usize, T::UNWRITTEN, || T::fresh(alloc)) }.ok()?;
+    Some(row)
+}
+"""
+
 EMPTIER = """trait {0}<T> {{
     fn empty(&mut self, object: &mut T);
 }}
@@ -279,6 +293,8 @@ KEPT = [
     ),
     ("a count by a path", ALIKE.format("crate::count()", "0"), "for _ in 0..crate::erased::keybits::count() {"),
     ("a value by a call", ALIKE.format("count", "next(hand)"), "row.push_reserved(Cell { n: next(hand) });"),
+    ("empty objects in a row with more room", FRESH.format("more", "count", "T::fresh(alloc)"), "for _ in 0..count {"),
+    ("a row of other objects", FRESH.format("count", "count", "T::other(alloc)"), "row.push_reserved(T::other(alloc));"),
     ("a number of numbers", SHAPE.format("at", "n as u32 + 1", ""), "n: u32) {}"),
     ("a number of a call", SHAPE.format("at", "next(n)", ""), "let _ = shape.at(next(n));"),
     ("a number of what may write", SHAPE.format("grow", "n", "mut "), "let _ = shape.grow(n);"),
@@ -325,6 +341,8 @@ WRONG = [
         "fn f(n: &mut u32) {\n    let no = || g(n);\n}\n",
     ),
     ("the size of a value", "fn f(n: &S) -> usize {\n    mem::size_of_val(n)\n}\n", "fn f(n: &S) -> usize {\n    mem::size_of_val(n)\n}\n"),
+    ("fewer empty objects", FRESH.format("count", "more", "T::fresh(alloc)"), FRESH_WRITTEN),
+    ("other objects in place of empty ones", FRESH.format("count", "count", "T::other(alloc)"), FRESH_WRITTEN),
     ("a range without an end", "fn f() {\n    for i in 250u8.. {\n    }\n}\n", "fn f() {\n    for i in 250u8.. {\n    }\n}\n"),
     (
         "a parameter that is dropped",

@@ -17,7 +17,7 @@ import sys
 
 sys.dont_write_bytecode = True
 from forms import LEXER, RUST_SIGNS, Parser, Refused, Source
-from shorter import ZEROS, Shorter
+from shorter import UNWRITTEN, Shorter
 
 ROOT = os.path.dirname(os.path.dirname(os.path.dirname(os.path.abspath(__file__))))
 CRATES = ["keybits", "slotcell", "freelists", "poolsteps", "shardpool"]
@@ -377,16 +377,17 @@ class Eraser(Shorter):
                 self.counts["ghost field"] += 1
                 source.drop_lines(a, b)
         if item.kind == "trait":
-            self.zeros(source, item)
+            self.unwritten(source, item)
             for part in item.items:
                 self.erase_item(source, part)
 
-    def zeros(self, source, item):
-        """A type that is `Clear` may tell that its empty objects are zeros, so that a row of them need not be written."""
+    def unwritten(self, source, item):
+        """A type that is `Clear` may tell that any bytes are one of its empty objects, so that a row of them takes no memory."""
         if (source.crate, item.name) == ("slotcell", "Clear"):
-            self.counts["asked: zeros"] += 1
+            self.counts["asked: unwritten"] += 1
             end = source.tokens[next(k for k in range(item.start, item.end) if source.at(k) == "{")].end
-            source.edits.append((end, end, f"\n    /// Whether each byte of an empty object is written, and 0.\n    {ZEROS}\n"))
+            told = "/// Whether any bytes are an empty object, also those of memory that was never written."
+            source.edits.append((end, end, f"\n    {told}\n    {UNWRITTEN}\n"))
 
     def between(self, source, i, j):
         """Leaves the tokens from i to j out, with all that stands between what is before and behind them."""

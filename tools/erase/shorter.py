@@ -1,7 +1,7 @@
 """What the translator writes other than the source has it, so that the program is quicker: not needed for plain Rust, and trusted apart.
 
-- Rows of values that are alike may come zeroed from the allocator (`alike`); the compiler looks whether the value has gaps. So may rows
-  of empty objects, of a type that tells that each of their bytes is 0 (`zeros`).
+- Rows of values that are alike may come zeroed from the allocator (`alike`); the compiler looks whether the value has gaps. A row of empty
+  objects (`fresh_row`), of a type that tells that any bytes are one (`unwritten`), isn't written, and takes memory where it is to stay alone.
 - A vector whose values are copied into a row or into a table, and which nobody uses any more, becomes it (`reserved_row`, `new_table`).
 - A look whose answer nobody takes goes (`look`): a load of a word that no step changes.
 - A number that nobody takes goes (`number`): what a shape answers.
@@ -36,9 +36,12 @@ HANDED = "Emptier"
 NUMBERS = {"u8", "u16", "u32", "u64", "usize"}
 # Signs of a value that is the same each time.
 PLAIN = {"(", ")", "{", "}", ":", ",", "::"}
-# An empty object, and what a type that is `Clear` tells of it.
-FRESH = ["T", "::", "fresh", "(", "alloc", ")"]
-ZEROS = "const ZEROS: bool = false;"
+# A row with room, and the loop that fills it with empty objects; and what a type that is `Clear` tells of these.
+FRESH_ROW = (
+    r"let mut (?P<row>\w+) = Vec :: with_capacity \( alloc , (?P<count>\w+)(?: as usize)? \) \. ok \( \) \? ;"
+    r" for _ in 0 \.\. (?P=count) { (?P=row) \. push_reserved \( T :: fresh \( alloc \) \) ; }"
+)
+UNWRITTEN = "const UNWRITTEN: bool = false;"
 # A function that takes value by value off a vector and puts it into a row: its parameters and its body.
 PUTS_ALL = (
     r"(?P<row>\w+) : & mut Slots < (?P<type>\w+) > , mut (?P<values>\w+) : Vec < (?P=type) >"
@@ -65,7 +68,7 @@ class Shorter:
         """Whether a form that begins at the word i, or has it, was written shorter."""
         behind = source.at(i + 1)
         if text == "for" and behind == "_" and source.at(i + 2) == "in":
-            return self.alike(source, i)
+            return self.fresh_row(source, i) or self.alike(source, i)
         if self.is_of_kit(source, i, "core::slots", "reserve"):
             return self.reserved_row(source, i)
         if self.is_of_kit(source, i, "atomic_table", "Table") and behind == "::":
@@ -183,20 +186,37 @@ class Shorter:
             return False
         # The count is a variable or a field, and the value made of such, of numbers and of calls without arguments: the same each time.
         simple = all(s.at(k) == "." or s.is_word(k) and s.at(k) not in self.crates for k in range(i + 5, open_at))
-        fresh = [s.at(k) for k in range(body + 4, close)] == FRESH
         calls = all(s.at(k) != "(" or s.at(k + 1) == ")" for k in range(body + 4, close))
         plain = all(s.tokens[k].kind in ("word", "number") or s.at(k) in PLAIN for k in range(body + 4, close))
-        if not (simple and (fresh or calls and plain and self.gapless_value(source, body + 4))):
+        if not (simple and calls and plain and self.gapless_value(source, body + 4)):
             return False
         self.counts["rewritten: row of values that are alike"] += 1
         count = s.text[s.tokens[i + 5].start : s.tokens[open_at - 1].end]
-        begin = "// SAFETY: it is `fresh` of which `ZEROS` tells.\nunsafe { " if fresh else ""
-        s.edits.append((s.tokens[i].start, s.tokens[body].start, begin))
-        written = f"push_fresh({count}, T::ZEROS, || " if fresh else f"push_alike({count}, || "
-        s.edits.append((s.tokens[body + 2].start, s.tokens[body + 3].end, written))
-        s.edits.append((s.tokens[close + 1].end, s.tokens[close + 2].end, " }" if fresh else ""))
+        s.edits.append((s.tokens[i].start, s.tokens[body].start, ""))
+        s.edits.append((s.tokens[body + 2].start, s.tokens[body + 3].end, f"push_alike({count}, || "))
+        s.edits.append((s.tokens[close + 1].end, s.tokens[close + 2].end, ""))
         for k in (*range(i, body), body + 2, body + 3, close + 2):
             s.done[k] = True
+        return True
+
+    def fresh_row(self, source, i):
+        """`let mut ROW = Vec::with_capacity(alloc, N).ok()?; for _ in 0..N { ROW.push_reserved(T::fresh(alloc)); }`: a row of empty objects,
+        which may be of a type that tells that any bytes are one. Whether the loop is that of one, and both are written as one call."""
+        s = source
+        end = s.close[Parser(s).until(i + 3, ("{",))] + 1
+        start = next((k for k in range(i - 1, 0, -1) if s.at(k) in (";", "{", "}") and k < i - 1), i) + 1
+        if not re.fullmatch(FRESH_ROW, s.words_at(start, end - start)):
+            return False
+        self.counts["rewritten: row of empty objects"] += 1
+        s.edits.append((s.tokens[start].start, s.tokens[start].start, "// SAFETY: it is `fresh` of which `UNWRITTEN` tells.\n"))
+        s.drop(start + 1, start + 2)
+        open_at = start + 7
+        s.insert(start + 4, "unsafe { ")
+        s.edits.append((s.tokens[start + 6].start, s.tokens[start + 6].end, "fresh"))
+        s.edits.append((s.tokens[s.close[open_at]].start, s.tokens[s.close[open_at]].end, ", T::UNWRITTEN, || T::fresh(alloc)) }"))
+        for k in (start + 6, s.close[open_at]):
+            s.done[k] = True
+        s.drop_lines(i, end)
         return True
 
     def new_table(self, source, i):

@@ -24,8 +24,12 @@ OTHERWISE = {"align_of", "align_of_val", "cfg", "cfg_attr", "cloned", "size_of",
 # Types of which no value has a value of their argument.
 HOLDS_NONE = {"HeldLease", "Lease", "PhantomData", "Run"}
 # An empty object, and what a type that is `Clear` tells of it.
-FRESH = ["T", "::", "fresh", "(", "alloc", ")"]
-ZEROS = "const ZEROS : bool = false ;"
+FRESH_ROW = (
+    r"(?P<row>\w+) = Vec :: with_capacity \( alloc , (?P<room>(?P<count>\w+)(?: as usize)?) \) \. ok \( \) \? ;"
+    r" for _ in 0 \.\. (?P=count) { (?P=row) \. push_reserved \( T :: fresh \( alloc \) \) ; }"
+)
+FRESH_WRITTEN = "{} = unsafe {{ Vec :: fresh ( alloc , {} , T :: UNWRITTEN , | | T :: fresh ( alloc ) ) }} . ok ( ) ? ;"
+UNWRITTEN = "const UNWRITTEN : bool = false ;"
 # Who empties in place, as the sources make him, and what lets him be copied.
 MADE = "let mut in_place = InPlace ;"
 COPIED = "# [ derive ( Clone , Copy ) ]".split()
@@ -297,7 +301,7 @@ class Walk:
     # What may be written otherwise
 
     def rewrite(self, i, j):
-        for rule in (self.comma, self.path, self.words, self.derive, self.inline, self.alike, self.handed, self.inserted):
+        for rule in (self.comma, self.path, self.words, self.derive, self.inline, self.fresh_row, self.alike, self.handed, self.inserted):
             step = rule(i, j)
             if step:
                 kind, i, j = step
@@ -382,22 +386,31 @@ class Walk:
         row, count, value = s[brace + 1 : call - 1], s[i + 5 : brace], s[call + 1 : self.close(call) - 1]
         if s[call - 1] != "push_reserved" or s[self.close(call) :][:2] != [";", "}"]:
             return None
-        fresh = value == FRESH
-        calls = not fresh and any(a == "(" and b != ")" for a, b in zip(value, value[1:]))
+        calls = any(a == "(" and b != ")" for a, b in zip(value, value[1:]))
         if calls or "." in value or not all(re.fullmatch(r"\w+|\.", token) for token in count):
             return None
-        name, told = ("push_fresh", ["T", "::", "ZEROS", ","]) if fresh else ("push_alike", [])
-        want = row + [name, "("] + count + [","] + told + ["|", "|"] + value + [")", ";"]
-        if fresh:
-            want = ["unsafe", "{", *want, "}"]
-        got, end = [], j
+        want = row + ["push_alike", "("] + count + [",", "|", "|"] + value + [")", ";"]
+        end = self.written(want, j)
+        return ("row of values that are alike", self.close(brace), end) if end else None
+
+    def fresh_row(self, i, j):
+        """A row with room, and the loop that fills it with empty objects."""
+        found = self.starts(i - 1, "let mut") and re.match(FRESH_ROW, " ".join(self.s[i + 1 : i + 60]))
+        if not found:
+            return None
+        end = self.written(FRESH_WRITTEN.format(found.group("row"), found.group("room")).split(" "), j)
+        return ("row of empty objects", i + 1 + len(found.group().split(" ")), end) if end else None
+
+    def written(self, want, j):
+        """Where the output goes on behind these tokens, if they stand there; but for commas that rustfmt sets."""
+        o, got, end = self.o, [], j
         while end < len(o) and len(got) < len(want):
             if o[end] == "," and o[end + 1] in CLOSE and want[len(got)] != ",":
                 end += 1
                 continue
             got.append(o[end])
             end += 1
-        return ("row of values that are alike", self.close(brace), end) if got == want else None
+        return end if got == want else None
 
     def handed(self, i, j):
         """Who is handed what a call takes out of a place, by value; and what lets him be copied."""
@@ -430,9 +443,10 @@ class Walk:
         size = r"(?:1|(?:std :: mem :: size_of|no_bytes) :: < [^;+]*? > \( \))"
         head = r"unsafe impl (?:< T > )?Gapless for \w+ (?:< T > )?{ const FIELDS : usize = "
         gapless = re.match(head + rf"{size}(?: \+ {size})* ; }}", text)
-        zeros = re.match(re.escape(ZEROS), text)
+        unwritten = re.match(re.escape(UNWRITTEN), text)
         access = re.match(r'crate :: sync :: (?:reads|writes) \( base \. ptr \. wrapping_add \( index \) , "place" \) ;', text)
-        for kind, found in (("asked: no drop", check), ("asked: no gap", gapless), ("access that is told", access), ("asked: zeros", zeros)):
+        asked = (("asked: no drop", check), ("asked: no gap", gapless), ("asked: unwritten", unwritten))
+        for kind, found in (*asked, ("access that is told", access)):
             if found:
                 return kind, i, j + len(found.group().split(" "))
         return None

@@ -13,8 +13,7 @@ use std::ops::{Deref, DerefMut};
 ///
 /// One that is dropped without a publish gives its place back: the object is emptied, and its key used up, so that it never names
 /// another one. (For that it is published and cleared at once. Who guesses the key could get the emptied object in between.) One that
-/// is leaked keeps its place until the pool is closed, and the pool's row of places then isn't freed; the object is dropped, but for a buffer,
-/// a text or a plain vector, which stands in that row.
+/// is leaked keeps its place until the pool is closed, which drops the object; the pool's row of places then isn't freed.
 ///
 /// ```
 /// # use pardz::{Pool, Shape};

@@ -129,7 +129,7 @@ fn fills(most: usize, publish: impl Fn(String) -> Option<Key>) -> usize {
     keys.len()
 }
 
-/// By lanes in hand, whose pages open meanwhile; by the thread's own; by shared lanes; and by clones.
+/// By shared lanes; by the thread's own; by lanes in hand; and by clones.
 fn all_ways(most: usize) {
     for _ in 0..3 {
         let by_owned = |text: String| {
@@ -182,49 +182,30 @@ fn looks_up() {
     HOOKED.fetch_add(1, SeqCst);
 }
 
-/// A pool of one lane, which is in hand, and one more; what the hook looks up is in it.
-fn with_lookups(work: impl FnOnce(&Pool<String>, &Lane<'static, String>)) {
-    let shape = Shape {
-        lanes: 1,
-        first_page: 1,
-        pages: 6,
-        ..Shape::default()
-    };
-    let pool = Arc::new(Pool::<String>::open(shape).unwrap());
-    let lane = pool.lane_owned().unwrap();
-    let key = lane.put("looked up").unwrap();
-    assert!(LOOKED_UP.set((Arc::clone(&pool), key)).is_ok());
-    HOOK.set(looks_up);
-    work(&pool, &lane);
-    HOOK.set(|| ());
-    assert!(HOOKED.load(SeqCst) > 5);
-}
-
-#[test]
-fn a_hook_looks_up_while_pages_open() {
-    alone("a_hook_looks_up_while_pages_open", || {
-        with_lookups(|pool, lane| {
-            let owned: Vec<_> = (0..63).map(|_| pool.create_owned().unwrap()).collect();
-            assert!(pool.create_owned().is_err());
-            let own: Vec<_> = (0..62).map(|_| lane.create().unwrap()).collect();
-            assert!(lane.create().is_err());
-            assert_eq!((owned.len(), own.len()), (63, 62));
-        });
-    });
-}
-
+/// In a pool of one lane, which is in hand, and one more.
 #[test]
 fn a_hook_looks_up_while_handles_are_cloned() {
     alone("a_hook_looks_up_while_handles_are_cloned", || {
-        with_lookups(|pool, lane| {
-            for _ in 0..10 {
-                let key = lane.put("cloned").unwrap();
-                let owned = pool.get_owned(key).unwrap();
-                let clones = [owned.clone(), owned.clone()];
-                assert!(lane.clear(key));
-                drop((owned, clones));
-            }
-        });
+        let shape = Shape {
+            lanes: 1,
+            first_page: 1,
+            pages: 6,
+            ..Shape::default()
+        };
+        let pool = Arc::new(Pool::<String>::open(shape).unwrap());
+        let lane = pool.lane_owned().unwrap();
+        let key = lane.put("looked up").unwrap();
+        assert!(LOOKED_UP.set((Arc::clone(&pool), key)).is_ok());
+        HOOK.set(looks_up);
+        for _ in 0..10 {
+            let key = lane.put("cloned").unwrap();
+            let owned = pool.get_owned(key).unwrap();
+            let clones = [owned.clone(), owned.clone()];
+            assert!(lane.clear(key));
+            drop((owned, clones));
+        }
+        HOOK.set(|| ());
+        assert!(HOOKED.load(SeqCst) > 5);
     });
 }
 

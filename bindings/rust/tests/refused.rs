@@ -56,17 +56,15 @@ fn each_place(one: &Lane, other: &Lane) {
     let mut keys = [None; 6];
     for (number, key) in keys.iter_mut().enumerate() {
         let content = [number as u8; 40];
-        let mut filling = again(CreateError::Memory, || one.create());
+        let mut filling = takes_none(|| one.create()).expect("a place");
         again(MemoryRefused, || filling.append(&content[..3]));
         assert_eq!(filling[..], content[..3]);
         again(MemoryRefused, || filling.append(&content[3..]));
         assert_eq!(filling[..], content);
         *key = Some(takes_none(|| filling.publish()));
     }
-    again(CreateError::Memory, || match one.create() {
-        Err(CreateError::Full) => Ok(()),
-        other => other.map(|_| panic!("a seventh place")),
-    });
+    let seventh = takes_none(|| one.create());
+    assert_eq!(seventh.err(), Some(CreateError::Full));
     for (number, key) in keys.iter().flatten().enumerate() {
         let reference = reads(other, *key, &[number as u8; 40]);
         assert!(takes_none(|| one.clear(*key)));
@@ -267,22 +265,41 @@ fn a_block_whose_object_was_dropped_has_the_next() {
     assert_eq!(lose(200), 0, "more memory was asked for");
 }
 
-/// A create that is refused the memory for a page goes on where there is some.
+/// Pages are opened without memory: by a lane in hand, and by calls of the thread's own lane and of one that is shared.
 #[test]
-fn a_page_is_opened_when_there_is_memory() {
-    let shape = Shape {
-        lanes: 1,
-        tag: 0,
-        ..SHAPE
-    };
-    let pool = Pool::<Buffer>::open(shape).expect("memory for a pool");
+fn pages_open_without_memory() {
+    let pool = Pool::<Buffer>::open(SHAPE).expect("memory for a pool");
     let lane = pool.lane().expect("a lane");
-    let first = [lane.create(), lane.create()].map(|it| it.expect("a place of the first page"));
-    GRANTED.set(0);
-    assert!(matches!(tried(|| lane.create()), Err(CreateError::Memory)));
-    let filling = lane.create().expect("a place of the second page");
-    assert_eq!(u64::from(filling.key()), 16_781_312);
-    drop((first, filling));
+    let first = (pool.create(), pool.create_owned());
+    let by_lane = takes_none(|| [(); 6].map(|()| lane.create()));
+    let by_calls = takes_none(|| [(); 5].map(|()| pool.create()));
+    let owned = takes_none(|| [(); 5].map(|()| pool.create_owned()));
+    assert!(first.0.is_ok() && first.1.is_ok());
+    assert!(by_lane.iter().all(Result::is_ok));
+    assert!(by_calls.iter().all(Result::is_ok));
+    assert!(owned.iter().all(Result::is_ok));
+    assert_eq!((pool.census().filling, pool.census().unopened), (18, 6));
+    drop((first, by_lane, by_calls, owned));
+}
+
+/// The text of a leaked filling is dropped at the close, which leaves the row of places alone.
+#[test]
+fn a_leaked_text_is_dropped() {
+    let blocks = BLOCKS.get();
+    let pool = Pool::<String>::open(SHAPE).expect("memory for a pool");
+    let lane = pool.lane().expect("a lane");
+    for text in ["published", "leaked"] {
+        let mut filling = lane.create().expect("a place");
+        filling.push_str(text);
+        if text == "leaked" {
+            std::mem::forget(filling);
+        } else {
+            filling.publish();
+        }
+    }
+    drop(lane);
+    assert_eq!(pool.close().filling, 1);
+    assert_eq!(BLOCKS.get() - blocks, 1);
 }
 
 /// The thread keeps two blocks until it ends: the list of its lanes, and a word of the pool that it called last.
@@ -315,7 +332,7 @@ fn a_lane_that_cannot_be_kept_comes_home() {
 
 #[test]
 fn each_request_of_buffers_is_refused() {
-    refuse_each(buffers, 30);
+    refuse_each(buffers, 25);
 }
 
 #[test]

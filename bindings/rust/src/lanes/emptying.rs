@@ -59,7 +59,8 @@ impl<T: Clear> Emptier<Placed<T>> for Emptying<'_, T> {
 impl<T: Clear> Emptier<Hooked<T>> for Emptying<'_, T> {
     #[inline(always)]
     fn empty(&mut self, object: &mut Hooked<T>) {
-        if let Some(block) = object.unhook() {
+        // SAFETY: it was in the place of a key, which is one of an opened page.
+        if let Some(block) = unsafe { object.unhook() } {
             self.turn().store().taken.push(block);
         }
     }

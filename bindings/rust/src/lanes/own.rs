@@ -4,7 +4,7 @@ use super::seat::{Near, Post, Stands};
 use super::segment::Segment;
 use super::threads::Within;
 use super::token::{Begun, By, Held};
-use super::turn::{with_new, with_page, AtHand, Brought, Short, Turn};
+use super::turn::{with_new, AtHand, Brought, Short, Turn};
 use crate::clear::Clear;
 use crate::errors::{CreateError, GetError};
 use crate::key::Key;
@@ -243,8 +243,7 @@ impl<'s, T: Clear, P: Stands<'s, T>> Own<'s, T, P> {
         self.create(Own::create_apart)
     }
 
-    #[cold]
-    #[inline(never)]
+    #[inline]
     pub(super) fn create_apart<W: By<T>>(
         self,
         brought: Brought<T>,
@@ -252,9 +251,7 @@ impl<'s, T: Clear, P: Stands<'s, T>> Own<'s, T, P> {
     where
         T: Default,
     {
-        with_page(brought, |brought, ready| {
-            self.turn().create_apart(brought, ready)
-        })
+        self.turn().create_apart(brought)
     }
 
     /// The same, with its segment beside it.

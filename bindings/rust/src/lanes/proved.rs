@@ -3,13 +3,13 @@
 use super::turn::Call;
 use crate::clear::Clear;
 use crate::erased::keybits::Shape;
-use crate::erased::poolsteps::{life_at, stack_word, Whole};
+use crate::erased::poolsteps::{life_at, Whole};
 use crate::erased::shardpool::{
     self, Census, CreateFault, Emptier, Filling, Lane, OpenFault, Pool, Ref,
 };
 use crate::erased::slotcell;
 use crate::object::{Hooked, Placed, Source, Stored};
-use crate::shim::{self, Global, Ready, RowBlock};
+use crate::shim::{self, Global, RowBlock};
 use std::marker::PhantomData;
 use std::mem::{self, ManuallyDrop};
 use std::ptr::NonNull;
@@ -39,10 +39,21 @@ impl<O: slotcell::Clear> Opened<O> {
         self.row.drain()
     }
 
-    /// Closes it, with its lanes: they go into the row in which they came, so it takes no memory.
-    pub(super) fn close(self, lanes: impl Iterator<Item = Lane<O>>) -> Census {
+    /// Closes it, with its lanes: they go into the row in which they came, so it takes no memory. Its objects go, each once, those of fillings
+    /// that were leaked too.
+    pub(super) fn close<T>(self, lanes: impl Iterator<Item = Lane<O>>) -> Census
+    where
+        O: Stored<T>,
+    {
         let Opened { pool, mut row } = self;
         lanes.for_each(|lane| row.push_reserved(lane));
+        for lane in row.iter() {
+            let first = lane.state.objects.first();
+            for start in first..first + places_of(lane, lane.state.pages.opened()) {
+                // SAFETY: it is a place of an opened page, and the pool and its lanes are ours.
+                unsafe { O::close(place_at(lane, start as u32)) };
+            }
+        }
         let call = Call;
         let census = shardpool::close(pool, row);
         call.end();
@@ -83,6 +94,12 @@ pub(super) unsafe fn create<T: Clear + Default, O: Stored<T>>(
     // SAFETY: the filling's place stands there, and the rest is the caller's.
     let object = unsafe { O::begin(place_at(lane, start), source) };
     Ok((key, start, object))
+}
+
+/// How many places a lane's first pages have, so many of them.
+fn places_of<O: slotcell::Clear>(lane: &Lane<O>, pages: u32) -> usize {
+    let sizes = (0..pages).map(|page| lane.state.shape.page_size(page) as usize);
+    sizes.sum()
 }
 
 /// Where an object of the lane's pool stands.
@@ -173,39 +190,6 @@ pub(super) unsafe fn downgrade<T, O: Stored<T>>(
     // SAFETY: the filling's place is one of the pool's, whose word its create has reached.
     unsafe { pool.grid.table.shared.has_word(life_at(parts.1 as usize)) };
     pool.downgrade(lane, proved).start
-}
-
-/// How many places the next page of a lane has, where a create would open one.
-pub(super) fn next_page<O: slotcell::Clear>(pool: &Pool<O>, lane: &Lane<O>) -> Option<usize> {
-    let (shape, opened) = (lane.state.shape, lane.state.pages.opened());
-    // (Places that others returned are the lane's alone to take: what is there now is there at the create.)
-    let has_returned = || {
-        let mut others = (0..shape.lanes).filter(|from| *from != lane.number());
-        others.any(|from| {
-            let word = stack_word(&shape, lane.number(), from);
-            pool.grid.table.shared.peek(word) != 0
-        })
-    };
-    let opens = !lane.has_free() && opened < shape.pages && !(opened > 0 && has_returned());
-    opens.then(|| shape.page_size(opened) as usize)
-}
-
-/// Memory for a page of so many places. None where it was refused.
-pub(super) fn ready_for<T: Clear>(page: usize) -> Option<Ready> {
-    if T::plain().0 {
-        Ready::new::<Placed<T>>(page)
-    } else {
-        Ready::new::<Hooked<T>>(page)
-    }
-}
-
-/// Whether this memory is for a page of so many places.
-pub(super) fn is_for<T: Clear>(ready: &Ready, page: usize) -> bool {
-    if T::plain().0 {
-        ready.is_for::<Placed<T>>(page)
-    } else {
-        ready.is_for::<Hooked<T>>(page)
-    }
 }
 
 /// What is `P` for a plain type, and else `B`. It is never dropped.

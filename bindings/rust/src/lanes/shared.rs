@@ -4,7 +4,7 @@ use super::seat::{Joint, Post};
 use super::segment::Segment;
 use super::threads;
 use super::token::{Begun, By, Far, Held, OfThread};
-use super::turn::{with_new, with_page, AtHand, Brought, Short, Turn};
+use super::turn::{with_new, AtHand, Brought, Short, Turn};
 use crate::clear::Clear;
 use crate::errors::{CreateError, GetError};
 use crate::key::Key;
@@ -140,23 +140,12 @@ impl<'s, T: Clear> Post<'s, T> {
     where
         T: Default,
     {
-        let created = with_page(brought, |brought, ready| {
-            let created = self.shared::<W, _>(|turn, joint| {
-                let begun = turn.create_apart(brought, ready)?;
-                come(joint);
-                Ok(begun.shared())
-            });
-            match created {
-                Some(Ok(begun)) => Ok(Ok(begun)),
-                Some(Err(apart)) => Err(apart),
-                None => Ok(Err(NotShared)),
-            }
+        let created = self.shared::<W, _>(|turn, joint| {
+            let begun = turn.create_apart(brought)?;
+            come(joint);
+            Ok(begun.shared())
         });
-        match created {
-            Ok(Ok(begun)) => Ok(Ok(begun)),
-            Ok(Err(NotShared)) => Err(NotShared),
-            Err(error) => Ok(Err(error)),
-        }
+        created.ok_or(NotShared)
     }
 
     /// A get of this segment.

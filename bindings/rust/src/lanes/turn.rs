@@ -8,7 +8,6 @@ use crate::erased::shardpool::{CreateFault, MOST_REFERENCES};
 use crate::errors::{CreateError, GetError, MemoryRefused};
 use crate::key::Key;
 use crate::object::{Block, Chain, Chunk, Crowded, Placed, Source};
-use crate::shim::Ready;
 use crate::sync::{self, Ordering};
 use std::marker::PhantomData;
 use std::mem;
@@ -55,42 +54,10 @@ pub(super) enum Short<T> {
     Failed(CreateError),
 }
 
-/// Why a create without a place at hand gives none.
-pub(super) enum Apart<T> {
-    /// Its next page has so many places, for which no memory is ready: what was brought comes back.
-    Page(usize, Brought<T>),
-    Failed(CreateError),
-}
-
 /// A lane that is had for calls: this thread alone uses it meanwhile.
 pub(super) struct Turn<'s, T: Clear, P: Stands<'s, T> = Post<'s, T>> {
     at: P,
     of: PhantomData<(&'s (), *const T)>,
-}
-
-/// A create that may open a page: the memory for that is asked for between two tries, where the lane isn't had for calls.
-pub(super) fn with_page<T: Clear, R>(
-    mut brought: Brought<T>,
-    mut create: impl FnMut(Brought<T>, &mut Option<Ready>) -> Result<R, Apart<T>>,
-) -> Result<R, CreateError> {
-    let mut ready = None;
-    loop {
-        match create(brought, &mut ready) {
-            Ok(created) => return Ok(created),
-            Err(Apart::Failed(error)) => return Err(error),
-            Err(Apart::Page(page, back)) => brought = back_with(page, back, &mut ready)?,
-        }
-    }
-}
-
-/// Memory for a page of so many places is ready then. Where it is refused, what was brought is dropped.
-fn back_with<T: Clear>(
-    page: usize,
-    brought: Brought<T>,
-    ready: &mut Option<Ready>,
-) -> Result<Brought<T>, CreateError> {
-    *ready = Some(proved::ready_for::<T>(page).ok_or(CreateError::Memory)?);
-    Ok(brought)
 }
 
 /// Puts a new object into a block: the memory for it is asked for in front, if it is wanted, and between two tries, where the lane isn't had
@@ -314,36 +281,26 @@ impl<'s, T: Clear, P: Stands<'s, T>> Turn<'s, T, P> {
         }
     }
 
-    /// A create of a lane without a place at hand, which may open a page, with the memory that is ready. How many it has opened
-    /// is told then.
+    /// A create of a lane without a place at hand, which may open a page. How many it has opened is told then.
+    #[cold]
+    #[inline(never)]
     pub(super) fn create_apart<W: By<T>>(
         &mut self,
         brought: Brought<T>,
-        ready: &mut Option<Ready>,
-    ) -> Result<Begun<'s, T, W>, Apart<T>>
+    ) -> Result<Begun<'s, T, W>, CreateError>
     where
         T: Default,
     {
-        let page = call!(T, self, |pool, lane| proved::next_page(pool, lane));
-        let ready = match (page, ready) {
-            (None, _) => None,
-            (Some(page), Some(ready)) if proved::is_for::<T>(ready, page) => Some(ready),
-            (Some(page), _) => return Err(Apart::Page(page, brought)),
-        };
         let mut source = self.source(brought);
         let post = self.post();
         let (created, opened) = call!(T, self, |pool, lane| {
             // SAFETY: the source is this lane's.
-            let mut make =
-                || unsafe { proved::create(pool, lane, &mut source, || post.begins_filling()) };
-            let created = match ready {
-                Some(ready) => ready.within(make),
-                None => make(),
-            };
+            let created =
+                unsafe { proved::create(pool, lane, &mut source, || post.begins_filling()) };
             (created, lane.state.pages.opened())
         });
         self.post().seat().opened.store(opened, Ordering::Relaxed);
-        self.begin(created, source).map_err(Apart::Failed)
+        self.begin(created, source)
     }
 
     /// What a create gave. A block that wasn't used is put away.
@@ -381,14 +338,8 @@ impl<'s, T: Clear, P: Stands<'s, T>> Turn<'s, T, P> {
     pub(super) unsafe fn put_back(&mut self, key: Key, object: Placed<T>) {
         let pool = &self.at.segment().proved().as_placed().pool;
         if let Some(spot) = pool.find(key.into()) {
-            // SAFETY: the place is one of the pool's, and nobody else reaches its object before the close.
-            drop(unsafe {
-                pool.grid
-                    .objects
-                    .ptr
-                    .add(spot.start as usize)
-                    .replace(object)
-            });
+            // SAFETY: the place is one of the pool's, and nobody else reaches its object before the close. (A fresh one is there.)
+            unsafe { pool.grid.objects.ptr.add(spot.start as usize).write(object) };
         }
     }
 

@@ -17,7 +17,7 @@ use crate::clear::Clear;
 use crate::erased::slotcell;
 use crate::shim::{impossible, Global};
 use crate::sync;
-use std::mem::{self, ManuallyDrop};
+use std::mem::{self, MaybeUninit};
 use std::ptr::NonNull;
 
 /// What a filling begins with.
@@ -41,8 +41,16 @@ impl<T> Source<T> {
     }
 }
 
-/// What the proved pool takes for its object. No code of others runs in its calls.
+/// What the proved pool takes for its object, at which it never looks, and which has no drop. A fresh one is zeros. Those are written as a page
+/// is opened: what stands in the places of others is bytes that nobody wrote. No code of others runs in the pool's calls.
 pub(crate) trait Stored<T>: slotcell::Clear + Sized {
+    /// The pool is closed: the place that stands there lets go of its object, if it has one.
+    ///
+    /// # Safety
+    ///
+    /// The place is one of an opened page. Nobody uses it any more.
+    unsafe fn close(at: NonNull<Self>);
+
     /// The object of a filling that begins in the place that stands there: it is empty.
     ///
     /// # Safety
@@ -67,17 +75,23 @@ pub(crate) trait Stored<T>: slotcell::Clear + Sized {
     unsafe fn address(&self) -> NonNull<T>;
 }
 
-/// That of a type which isn't plain: a block, or none where the place is empty.
+/// That of a type which isn't plain: a block, or none where the place is empty. The block is its chunk's: where it is looked for, a close
+/// finds it here.
 #[repr(transparent)]
 pub(crate) struct Hooked<T> {
-    block: ManuallyDrop<Option<Block<T>>>,
+    block: MaybeUninit<Option<Block<T>>>,
 }
 
 impl<T> Hooked<T> {
     /// Takes its block out.
+    ///
+    /// # Safety
+    ///
+    /// It is in a place of an opened page, or was.
     #[inline]
-    pub(crate) fn unhook(&mut self) -> Option<Block<T>> {
-        self.block.take()
+    pub(crate) unsafe fn unhook(&mut self) -> Option<Block<T>> {
+        // SAFETY: the caller's: a fresh one has none.
+        unsafe { self.block.assume_init_mut() }.take()
     }
 }
 
@@ -95,47 +109,44 @@ impl<T> Stored<T> for Hooked<T> {
         sync::writes(at.as_ptr(), "place");
         // SAFETY: the caller's; a begin took the object out of a block.
         let (place, block) = unsafe { (&mut *at.as_ptr(), Block::of_object(object)) };
-        debug_assert!(place.block.is_none());
-        *place.block = Some(block);
+        // SAFETY: a place of an opened page has a block, or none.
+        debug_assert!(unsafe { place.block.assume_init_ref() }.is_none());
+        place.block.write(Some(block));
+    }
+
+    #[inline]
+    unsafe fn close(at: NonNull<Self>) {
+        if FINDS_LOST {
+            // SAFETY: the caller's.
+            let block = unsafe { (*at.as_ptr()).unhook() };
+            block.into_iter().for_each(Block::find);
+        }
     }
 
     #[inline(always)]
     unsafe fn address(&self) -> NonNull<T> {
-        debug_assert!(self.block.is_some());
         // SAFETY: an end put a block there, as the place is published.
-        unsafe { self.block.as_ref().unwrap_unchecked() }.address()
+        unsafe { self.block.assume_init_ref().as_ref().unwrap_unchecked() }.address()
     }
 }
 
 impl<T> slotcell::Clear for Hooked<T> {
     // (A pointer, and none is zeros.)
-    const ZEROS: bool = true;
+    const UNWRITTEN: bool = true;
 
     #[inline]
     fn fresh(_: Global) -> Hooked<T> {
         Hooked {
-            block: ManuallyDrop::new(None),
+            block: MaybeUninit::new(None),
         }
     }
 
-    // (No call comes here: who empties is an `Emptier`. The block would be its chunk's alone.)
+    // (No call comes here: who empties is an `Emptier`.)
     #[inline]
-    fn clear(&mut self) {
-        mem::forget(self.unhook());
-    }
+    fn clear(&mut self) {}
 
     #[inline]
     fn room(&self) -> usize {
         0
-    }
-}
-
-/// The block is its chunk's. Where it is looked for, a close finds it here.
-impl<T> Drop for Hooked<T> {
-    #[inline(always)]
-    fn drop(&mut self) {
-        if FINDS_LOST {
-            self.unhook().into_iter().for_each(Block::find);
-        }
     }
 }

@@ -7,9 +7,9 @@ use crate::sync;
 use std::mem::{self, MaybeUninit};
 use std::ptr::NonNull;
 
-/// What the proved pool takes for its object of a plain type: the object itself, or zeros in a place that never had one. It stays there as
-/// it is until the next filling of the place begins; or goes to the lane's next filling of any place, if it is the one that the lane emptied
-/// last, whose memory is warm.
+/// What the proved pool takes for its object of a plain type: the object itself, or zeros in a place of an opened page that never had one. It
+/// stays there as it is until the next filling of the place begins; or goes to the lane's next filling of any place, if it is the one that the
+/// lane emptied last, whose memory is warm.
 #[repr(transparent)]
 pub(crate) struct Placed<T> {
     object: MaybeUninit<T>,
@@ -91,6 +91,20 @@ impl<T> Stored<T> for Placed<T> {
     #[inline(always)]
     unsafe fn end(_: NonNull<Self>, _: NonNull<T>) {}
 
+    #[inline]
+    unsafe fn close(at: NonNull<Self>) {
+        if !mem::needs_drop::<T>() {
+            return;
+        }
+        sync::writes(at.as_ptr(), "place");
+        // SAFETY: the caller's.
+        let place = unsafe { &mut *at.as_ptr() };
+        if place.is_there() {
+            // SAFETY: an object is there, and goes with its place.
+            unsafe { place.object.assume_init_drop() };
+        }
+    }
+
     #[inline(always)]
     unsafe fn address(&self) -> NonNull<T> {
         debug_assert!(self.is_there());
@@ -99,7 +113,7 @@ impl<T> Stored<T> for Placed<T> {
 }
 
 impl<T> slotcell::Clear for Placed<T> {
-    const ZEROS: bool = true;
+    const UNWRITTEN: bool = true;
 
     #[inline]
     fn fresh(_: Global) -> Placed<T> {
@@ -118,16 +132,6 @@ impl<T> slotcell::Clear for Placed<T> {
     }
 }
 
-impl<T> Drop for Placed<T> {
-    #[inline(always)]
-    fn drop(&mut self) {
-        if mem::needs_drop::<T>() && self.is_there() {
-            // SAFETY: an object is there, and goes with its place.
-            unsafe { self.object.assume_init_drop() };
-        }
-    }
-}
-
 #[cfg(test)]
 mod tests {
     use super::*;
@@ -143,6 +147,8 @@ mod tests {
             assert!(!place.is_there());
             place.object.write(T::default());
             assert!(place.is_there());
+            // SAFETY: the place is ours, and isn't used any more.
+            unsafe { Placed::close(NonNull::from(&mut place)) };
         }
         told::<Buffer>();
         told::<String>();

@@ -1,7 +1,6 @@
 //! Memory, and boxes.
 
 use super::block::apart;
-use super::ready;
 use std::alloc::{alloc, alloc_zeroed, dealloc, Layout};
 use std::marker::PhantomData;
 use std::mem::{self, MaybeUninit};
@@ -26,34 +25,28 @@ pub(crate) struct AllocFailed<T> {
     pub(crate) value: T,
 }
 
+/// So much memory costs an allocator no more if it is zeroed.
+pub(crate) const MUCH: usize = 16_384;
+
 /// Memory for so many values, zeroed. None where it was refused.
-pub(crate) fn zeroed<T>(count: usize) -> Option<NonNull<T>> {
+pub(super) fn zeroed<T>(count: usize) -> Option<NonNull<T>> {
+    // SAFETY: it is asked for a layout with bytes.
+    asked_for(count, |layout| unsafe { alloc_zeroed(layout) })
+}
+
+/// Memory for so many values. None where it was refused.
+pub(super) fn memory<T>(count: usize) -> Option<NonNull<T>> {
+    // SAFETY: it is asked for a layout with bytes.
+    asked_for(count, |layout| unsafe { alloc(layout) })
+}
+
+/// Memory by the layout of so many values, which is asked for where it has bytes.
+fn asked_for<T>(count: usize, ask: impl FnOnce(Layout) -> *mut u8) -> Option<NonNull<T>> {
     let layout = Layout::array::<T>(count).ok()?;
     if layout.size() == 0 {
         return Some(NonNull::dangling());
     }
-    if let Some(at) = ready::take(layout) {
-        return Some(at.cast());
-    }
-    // SAFETY: the size isn't 0.
-    NonNull::new(apart(|| unsafe { alloc_zeroed(layout) }).cast())
-}
-
-/// So much memory costs an allocator no more if it is zeroed.
-pub(crate) const MUCH: usize = 16_384;
-
-/// Memory for so many values, which have bytes, and whether it is zeroed. None where it was refused.
-pub(super) fn memory<T>(count: usize) -> Option<(NonNull<T>, bool)> {
-    let layout = Layout::array::<T>(count).ok()?;
-    if layout.size() >= MUCH || layout.size() == 0 {
-        return Some((zeroed(count)?, true));
-    }
-    if let Some(at) = ready::take(layout) {
-        return Some((at.cast(), true));
-    }
-    // SAFETY: the size isn't 0.
-    let at = NonNull::new(apart(|| unsafe { alloc(layout) }))?;
-    Some((at.cast(), false))
+    NonNull::new(apart(|| ask(layout)).cast())
 }
 
 /// Frees memory, which the allocator gave by this layout.
@@ -70,7 +63,7 @@ pub(super) unsafe fn release(at: NonNull<u8>, layout: Layout) {
 ///
 /// # Safety
 ///
-/// It is memory of `zeroed` for as many, and nothing uses it any more.
+/// It is memory of `zeroed` or `memory` for as many, and nothing uses it any more.
 pub(crate) unsafe fn free<T>(at: *mut T, count: usize) {
     let layout = Layout::array::<T>(count).expect("as it was asked for");
     if layout.size() != 0 {

@@ -7,7 +7,6 @@
 mod array;
 mod block;
 mod heap;
-mod ready;
 mod rows;
 mod table;
 #[cfg(test)]
@@ -18,7 +17,6 @@ pub(crate) mod trace;
 pub(crate) use array::ArrayVec;
 pub(crate) use block::RowBlock;
 pub(crate) use heap::{AllocError, Allocator, Box, Global, MUCH};
-pub(crate) use ready::Ready;
 pub(crate) use rows::{no_bytes, release, reserve, Gapless, Lease, Slots, Vec};
 pub(crate) use table::{Closed, Seat, Table};
 

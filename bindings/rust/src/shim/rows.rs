@@ -1,12 +1,12 @@
 //! Rows of values.
 
+use super::block;
 use super::check;
-use super::heap::{self, free, zeroed, AllocError, Global};
-use super::{block, ready};
+use super::heap::{self, free, zeroed, AllocError, Global, MUCH};
 use std::alloc::Layout;
 use std::fmt;
 use std::marker::PhantomData;
-use std::mem::{self, ManuallyDrop};
+use std::mem::{self, ManuallyDrop, MaybeUninit};
 use std::ops::{Deref, DerefMut, Index, IndexMut, Range};
 use std::ptr::NonNull;
 use std::{ptr, slice, vec};
@@ -14,6 +14,8 @@ use std::{ptr, slice, vec};
 /// A vector that reports where memory was refused.
 pub(crate) struct Vec<T> {
     items: ManuallyDrop<vec::Vec<T>>,
+    /// How many values of which any bytes are one follow the items: they stand nowhere. There are items or such.
+    unwritten: u32,
     /// Whether the memory behind the items is zeroed.
     clean: bool,
     /// Whether the memory is part of a block, which frees it.
@@ -30,6 +32,7 @@ impl<T> Vec<T> {
     fn of(items: vec::Vec<T>) -> Vec<T> {
         Vec {
             items: ManuallyDrop::new(items),
+            unwritten: 0,
             clean: false,
             is_part: false,
         }
@@ -37,30 +40,39 @@ impl<T> Vec<T> {
 
     /// An empty vector with room for so many.
     pub(crate) fn with_capacity(_: Global, count: usize) -> Result<Vec<T>, AllocError> {
+        Vec::with_memory(count, false)
+    }
+
+    /// The same; its memory is zeroed if that is wanted.
+    fn with_memory(count: usize, zeroed: bool) -> Result<Vec<T>, AllocError> {
         if count == 0 || mem::size_of::<T>() == 0 {
             return Ok(Vec::of(vec::Vec::new()));
         }
         let part = Layout::array::<T>(count).ok().and_then(block::part);
-        let (at, clean) = part
-            .map(|at| (at.cast(), true))
-            .or_else(|| heap::memory::<T>(count))
-            .ok_or(AllocError)?;
+        let (at, clean) = match part {
+            Some(at) => (Some(at.cast()), true),
+            None if zeroed => (heap::zeroed::<T>(count), true),
+            None => (heap::memory::<T>(count), false),
+        };
+        let at = at.ok_or(AllocError)?;
         // SAFETY: it is memory by the layout of an array of so many, and has no item yet. It is of the program's allocator; or part of a
         // block, and then this vector is neither grown nor freed (`reserve`, `into_memory_of`, `drop`, `into_iter`).
         let items = unsafe { vec::Vec::from_raw_parts(at.as_ptr(), 0, count) };
         Ok(Vec {
             items: ManuallyDrop::new(items),
+            unwritten: 0,
             clean,
             is_part: part.is_some(),
         })
     }
 
     /// So many of a number.
-    pub(crate) fn filled(alloc: Global, value: T, count: usize) -> Result<Vec<T>, AllocError>
+    pub(crate) fn filled(_: Global, value: T, count: usize) -> Result<Vec<T>, AllocError>
     where
         T: Gapless + Copy,
     {
-        let mut row = Vec::with_capacity(alloc, count)?;
+        let is_much = count >= MUCH / mem::size_of::<T>();
+        let mut row = Vec::with_memory(count, is_much && is_zero(value))?;
         row.push_alike(count, || value);
         Ok(row)
     }
@@ -83,28 +95,27 @@ impl<T> Vec<T> {
         self.fill(length, make);
     }
 
-    /// Appends so many empty objects, for which there is room. Where zeros are there, and `zeros` tells that they are such objects, nothing is
-    /// written.
+    /// So many empty objects. With `unwritten` they take no memory, and come out of the row as zeros; or the row is to stay where it is, and
+    /// has memory of which no byte is written.
     ///
     /// # Safety
     ///
-    /// With `zeros`, bytes that are all 0 are a value that `make` makes.
+    /// With `unwritten`, any bytes are a value such as `make` makes, those of memory that was never written too.
     #[inline]
-    pub(crate) unsafe fn push_fresh(
-        &mut self,
-        count: impl TryInto<usize>,
-        zeros: bool,
+    pub(crate) unsafe fn fresh(
+        alloc: Global,
+        count: usize,
+        unwritten: bool,
         make: impl Fn() -> T,
-    ) {
-        let count = count.try_into().unwrap_or(usize::MAX);
-        let length = self.items.len().saturating_add(count);
-        assert!(length <= self.items.capacity(), "out of range");
-        if zeros && self.clean {
-            // SAFETY: the memory is there, and zeroed, so that each item is an empty object, as the caller says.
-            unsafe { self.items.set_len(length) };
-            return;
+    ) -> Result<Vec<T>, AllocError> {
+        if unwritten {
+            let mut row = Vec::new(alloc);
+            row.unwritten = count.try_into().or(Err(AllocError))?;
+            return Ok(row);
         }
-        self.fill(length, make);
+        let mut row = Vec::with_capacity(alloc, count)?;
+        row.fill(count, make);
+        Ok(row)
     }
 
     /// Appends values up to this length, for which there is room. (By a loop in which the compiler sees that they are alike.)
@@ -164,6 +175,15 @@ impl<T> Vec<T> {
     pub(super) fn into_memory_of<U>(self) -> Result<(*mut U, usize), AllocError> {
         const { assert!(mem::size_of::<T>() == mem::size_of::<U>()) };
         let mut row = self;
+        if row.unwritten > 0 {
+            let count = row.unwritten as usize;
+            let at = heap::memory::<U>(count).ok_or(AllocError)?.as_ptr();
+            if cfg!(any(debug_assertions, pardz_explore)) {
+                // SAFETY: it is memory for so many. (What reads it, as what nobody wrote, finds no address.)
+                unsafe { ptr::write_bytes(at, 0x5A, count) };
+            }
+            return Ok((at, count));
+        }
         let (at, count) = (row.items.as_mut_ptr(), row.items.len());
         let is_exact = count == row.items.capacity();
         if is_exact && !row.is_part && mem::align_of::<T>() == mem::align_of::<U>() {
@@ -284,6 +304,7 @@ impl<T> IntoIterator for Vec<T> {
             at: NonNull::from(&mut **row.items).cast(),
             capacity: if row.is_part { 0 } else { row.items.capacity() },
             left: 0..row.items.len(),
+            unwritten: row.unwritten,
         }
     }
 }
@@ -293,6 +314,7 @@ pub(crate) struct IntoIter<T> {
     at: NonNull<T>,
     capacity: usize,
     left: Range<usize>,
+    unwritten: u32,
 }
 
 impl<T> Iterator for IntoIter<T> {
@@ -300,9 +322,13 @@ impl<T> Iterator for IntoIter<T> {
 
     #[inline]
     fn next(&mut self) -> Option<T> {
-        let index = self.left.next()?;
-        // SAFETY: a value is there, and is taken once.
-        Some(unsafe { self.at.as_ptr().add(index).read() })
+        if let Some(index) = self.left.next() {
+            // SAFETY: a value is there, and is taken once.
+            return Some(unsafe { self.at.as_ptr().add(index).read() });
+        }
+        self.unwritten = self.unwritten.checked_sub(1)?;
+        // SAFETY: zeros are such a value, as `fresh` was told.
+        Some(unsafe { MaybeUninit::zeroed().assume_init() })
     }
 }
 
@@ -310,7 +336,7 @@ impl<T> Drop for IntoIter<T> {
     fn drop(&mut self) {
         self.by_ref().for_each(drop);
         let layout = Layout::array::<T>(self.capacity).expect("as it was asked for");
-        if layout.size() != 0 && !ready::keep(self.at.cast(), layout) {
+        if layout.size() != 0 {
             // SAFETY: a vector of this capacity had the memory, and no value is left in it.
             unsafe { heap::release(self.at.cast(), layout) };
         }

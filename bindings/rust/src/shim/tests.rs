@@ -2,6 +2,7 @@
 use super::heap::free;
 use super::*;
 use std::cell::Cell;
+use std::mem::MaybeUninit;
 use std::rc::Rc;
 
 /// Counts its drops; as large as a pointer, or larger.
@@ -60,16 +61,29 @@ fn rows_have_their_values() {
 }
 
 #[test]
-fn empty_objects_are_written_where_others_were() {
-    let mut row = Vec::with_capacity(Global, 2).unwrap();
-    // SAFETY: bytes that are all 0 are the number 0.
-    let push = |row: &mut Vec<u32>, count: usize| unsafe { row.push_fresh(count, true, || 0) };
-    push(&mut row, 2);
-    assert_eq!(*row, [0, 0]);
-    row[1] = 7;
-    assert_eq!(row.pop(), Some(7));
-    push(&mut row, 1);
-    assert_eq!(*row, [0, 0]);
+fn rows_of_empty_objects_have_as_many() {
+    for unwritten in [false, true] {
+        let fresh = || {
+            // SAFETY: any bytes are such a value.
+            unsafe { Vec::fresh(Global, 3, unwritten, MaybeUninit::<u64>::uninit) }.expect("memory")
+        };
+        assert_eq!(fresh().into_iter().count(), 3);
+        // SAFETY: none is asked.
+        let (mut slots, lease) = unsafe { reserve(&Global, fresh()) }.expect("memory");
+        slots.put(2, MaybeUninit::new(7));
+        // SAFETY: it was written.
+        assert_eq!(unsafe { slots.take(2).assume_init() }, 7);
+        release(&Global, slots, lease);
+    }
+}
+
+#[test]
+fn long_rows_of_zeros_are_zeros() {
+    for count in [MUCH / 8 - 1, MUCH / 8, MUCH] {
+        let row = Vec::filled(Global, 0u64, count).expect("memory");
+        assert_eq!(row.len(), count);
+        assert!(row.iter().all(|number| *number == 0));
+    }
 }
 
 #[test]

@@ -34,11 +34,8 @@ const _: () = assert!(!std::mem::needs_drop::<Directory<()>>());
 impl<T: Clear> Directory<T> {
     /// A directory of so many places, each with an empty object. None where memory was refused.
     pub fn new(alloc: Global, count: usize) -> Option<Directory<T>> {
-        let mut words = Vec::with_capacity(alloc, count).ok()?;
-        // SAFETY: it is `fresh` of which `ZEROS` tells.
-        unsafe {
-            words.push_fresh(count, T::ZEROS, || T::fresh(alloc));
-        }
+        // SAFETY: it is `fresh` of which `UNWRITTEN` tells.
+        let words = unsafe { Vec::fresh(alloc, count, T::UNWRITTEN, || T::fresh(alloc)) }.ok()?;
         // SAFETY: what is asked here is proved in the source.
         let (mut row, lease) = (unsafe { reserve(&alloc, words) }).ok()?;
         Some(Directory {

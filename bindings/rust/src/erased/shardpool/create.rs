@@ -218,11 +218,9 @@ fn open_page<T: Clear>(lane: &mut Lane<T>) -> Result<(), CreateFault> {
 
 /// So many empty objects. None where memory was refused.
 fn fresh_objects<T: Clear>(alloc: Global, count: u32) -> Option<Vec<T>> {
-    let mut objects = Vec::with_capacity(alloc, count as usize).ok()?;
-    // SAFETY: it is `fresh` of which `ZEROS` tells.
-    unsafe {
-        objects.push_fresh(count, T::ZEROS, || T::fresh(alloc));
-    }
+    // SAFETY: it is `fresh` of which `UNWRITTEN` tells.
+    let objects =
+        unsafe { Vec::fresh(alloc, count as usize, T::UNWRITTEN, || T::fresh(alloc)) }.ok()?;
     Some(objects)
 }
 

@@ -13,8 +13,8 @@ use std::fmt;
 /// it can hold in all without taking memory, and an empty object comes from `fresh`, which is handed the allocator, in
 /// place of a default.
 pub trait Clear {
-    /// Whether each byte of an empty object is written, and 0.
-    const ZEROS: bool = false;
+    /// Whether any bytes are an empty object, also those of memory that was never written.
+    const UNWRITTEN: bool = false;
 
     /// Makes an empty object. It takes no memory.
     fn fresh(alloc: Global) -> Self;
