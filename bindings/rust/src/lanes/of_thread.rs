@@ -246,8 +246,11 @@ impl<T: Clear> Room<T> {
     /// A clear of the lane's segment.
     #[inline(always)]
     fn clear_within<'s>(&'s self, own: Own<'s, T, Near<'s, T>>, key: Key, start: u32) -> bool {
-        if self.is_of_shared(own, key) {
-            return self.clear_of_shared(own, key, start);
+        if key.shard() != own.post().number() {
+            own.segment().fetch_ahead(start);
+            if self.lanes.is_shared(key.shard()) {
+                return self.clear_of_shared(own, key);
+            }
         }
         own.clear(key)
     }
@@ -268,12 +271,6 @@ impl<T: Clear> Room<T> {
             unsafe { self.had_place(own.post()) };
         }
         self.clear_within(own, key, start)
-    }
-
-    /// Whether a key is of a lane that threads share.
-    #[inline(always)]
-    fn is_of_shared<'s>(&self, own: Own<'s, T, Near<'s, T>>, key: Key) -> bool {
-        key.shard() != own.post().number() && self.lanes.is_shared(key.shard())
     }
 
     #[inline(never)]
@@ -297,10 +294,8 @@ impl<T: Clear> Room<T> {
 
     /// A clear of a shared lane's key: by that lane, where nobody has its lock, so that its next create finds the place at hand.
     #[inline(never)]
-    fn clear_of_shared<'s>(&'s self, own: Own<'s, T, Near<'s, T>>, key: Key, start: u32) -> bool {
-        let segment = own.segment();
-        segment.fetch_ahead(start);
-        let shard = key.shard();
+    fn clear_of_shared<'s>(&'s self, own: Own<'s, T, Near<'s, T>>, key: Key) -> bool {
+        let (segment, shard) = (own.segment(), key.shard());
         let Some((cleared, taken)) = segment.post(shard).try_shared_clear(key) else {
             return own.clear(key);
         };
