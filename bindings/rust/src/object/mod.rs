@@ -41,8 +41,8 @@ impl<T> Source<T> {
     }
 }
 
-/// What the proved pool takes for its object, at which it never looks, and which has no drop. A fresh one is zeros. Those are written as a page
-/// is opened: what stands in the places of others is bytes that nobody wrote. No code of others runs in the pool's calls.
+/// What the proved pool takes for its object, at which it never looks, and which has no drop. A fresh one is zeros, which places get as their
+/// page opens; what stands in places of unopened pages is bytes that nobody wrote. No code of others runs in the pool's calls.
 pub(crate) trait Stored<T>: slotcell::Clear + Sized {
     /// The pool is closed: the place that stands there lets go of its object, if it has one.
     ///
