@@ -178,8 +178,8 @@ impl<T> Vec<T> {
         if row.unwritten > 0 {
             let count = row.unwritten as usize;
             let at = heap::memory::<U>(count).ok_or(AllocError)?.as_ptr();
-            if cfg!(any(debug_assertions, pardz_explore)) {
-                // SAFETY: it is memory for so many. (What reads it, as what nobody wrote, finds no address.)
+            if cfg!(pardz_explore) {
+                // SAFETY: it is memory for so many. (What reads it, as what nobody wrote, finds no address there.)
                 unsafe { ptr::write_bytes(at, 0x5A, count) };
             }
             return Ok((at, count));
