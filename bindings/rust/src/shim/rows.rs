@@ -109,6 +109,7 @@ impl<T> Vec<T> {
         make: impl Fn() -> T,
     ) -> Result<Vec<T>, AllocError> {
         if unwritten {
+            assert!(!mem::needs_drop::<T>());
             let mut row = Vec::new(alloc);
             row.unwritten = count.try_into().or(Err(AllocError))?;
             return Ok(row);
