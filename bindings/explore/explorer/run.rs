@@ -368,10 +368,12 @@ impl State {
 
     /// The thread looks at a word whose newest value is this one. Answers how many values back it looks, and what it finds there.
     fn look(&mut self, thread: usize, at: usize, effect: Effect, newest: u64) -> (u32, u64) {
+        let acquired = effect.acquires.then(|| self.memory.acquired(at));
+        let own = &mut self.threads[thread];
         let Some(values) = self.values.get_mut(&at).filter(|_| !self.is_seen) else {
+            own.known.join(&acquired.unwrap_or_default());
             return (0, newest);
         };
-        let own = &mut self.threads[thread];
         let oldest = values.oldest(thread, &own.known, effect.in_one_order);
         let last = values.all.len() - 1;
         let age = self.walk.age(last - oldest);

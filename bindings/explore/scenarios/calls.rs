@@ -57,7 +57,7 @@ pub fn all() -> Vec<Scenario> {
                 assert_eq!(world.close().filling, 1);
             },
         )
-        .leaving(1)
+        .forgetting()
         .bounded(2),
         Scenario::new("pool-calls", one_lane, [get, clear], cleared_once),
         Scenario::new(

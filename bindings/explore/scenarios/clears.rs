@@ -54,6 +54,12 @@ pub fn all() -> Vec<Scenario> {
             links_emptied,
         ),
         Scenario::new(
+            "linked-and-made",
+            made,
+            [Made::make_two, |made| made.links.clear(0)],
+            Made::finish,
+        ),
+        Scenario::new(
             "linked-and-held",
             links,
             [|l| l.clear(0), |l| l.hold_and_clear(1)],
@@ -136,7 +142,7 @@ impl Chain {
     }
 }
 
-/// Two lanes in hand. All blocks of the first have objects, of which the other one clears one: that panics, and the object is dropped.
+/// Two lanes in hand. The other one clears an object of the first: that panics, and the object is dropped.
 struct Lost {
     lanes: [Mutex<Option<Lane<'static, Nested>>>; 2],
     pool: Arc<Pool<Nested>>,
@@ -265,7 +271,12 @@ struct Links {
 }
 
 fn links() -> Links {
-    let pool = Box::new(Pool::<Linked>::open(shape(1, 4, 1)).expect("memory"));
+    links_of(1, 4).0
+}
+
+/// Those, by a lane of a pool of so many lanes, with so many places each.
+fn links_of(lanes: u32, places: u32) -> (Links, Lane<'static, Linked>) {
+    let pool = Box::new(Pool::<Linked>::open(shape(lanes, places, 1)).expect("memory"));
     // SAFETY: the pool's objects clear nothing when it is closed, so none calls it then.
     let lasting: &'static Pool<Linked> = unsafe { &*ptr::from_ref(&*pool) };
     let lane = lasting.lane().expect("nobody has it");
@@ -277,7 +288,7 @@ fn links() -> Links {
         linked.next = Some((lasting, second));
     });
     let keys = [first.expect("a place"), second];
-    Links { pool, keys }
+    (Links { pool, keys }, lane)
 }
 
 impl Links {
@@ -298,4 +309,41 @@ fn links_emptied(links: Links) {
     assert_eq!(emptied(), 2, "each is emptied once");
     let census = links.pool.close();
     assert_eq!((census.present, census.marked, census.filling), (0, 0, 0));
+}
+
+/// Two objects, of which the first one clears the second, in the only places of a lane in hand.
+struct Made {
+    lane: Mutex<Option<Lane<'static, Linked>>>,
+    links: Links,
+}
+
+fn made() -> Made {
+    let (links, lane) = links_of(2, 2);
+    let lane = Mutex::new(Some(lane));
+    Made { lane, links }
+}
+
+impl Made {
+    /// Fills the places that it finds free: with no object that is being emptied, by a thread with the other lane.
+    fn make_two(&self) {
+        let lane = self.lane.lock().expect("no panic").take();
+        let lane = lane.expect("one thread has it");
+        for number in 3..5 {
+            let filled = lane.create_with(|linked| {
+                assert!(linked.object.get() == 0 && linked.next.is_none());
+                linked.object.set(number);
+            });
+            if let Ok(key) = filled {
+                assert_eq!(lane.get(key).expect("published").object.get(), number);
+            }
+        }
+    }
+
+    fn finish(self) {
+        let Made { lane, links } = self;
+        drop(lane);
+        assert_eq!(emptied(), 2, "each is emptied once");
+        let census = links.pool.close();
+        assert_eq!((census.marked, census.filling), (0, 0));
+    }
 }

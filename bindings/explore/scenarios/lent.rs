@@ -526,7 +526,7 @@ impl Nests {
 
     fn lend_within_default(&self) {
         self.begin();
-        drop(self.pool.create());
+        drop(self.pool.create_owned());
         drop(self.pool.create());
         NEXT.set(None);
         NESTS.set(None);

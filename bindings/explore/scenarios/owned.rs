@@ -1,7 +1,6 @@
 //! Owned handles: they go to other threads, and keep the pool's memory when it is dropped.
 use crate::world::{
-    alive, emptied, lanes_at_home, lanes_in_hand, look_by_call, number_of, shape, Scenario,
-    Tracked, World,
+    emptied, lanes_at_home, lanes_in_hand, look_by_call, number_of, shape, Scenario, Tracked, World,
 };
 use pardz::{Key, OwnedFilling, OwnedRef, Pool};
 use std::sync::atomic::{AtomicUsize, Ordering::SeqCst};
@@ -61,7 +60,9 @@ pub fn all() -> Vec<Scenario> {
             "owned-again",
             || lanes_at_home(shape(2, 4, 1), 0),
             [clear_and_make, clear_and_make],
-            made_again,
+            |world| {
+                world.settle();
+            },
         )
         .bounded(2),
         Scenario::new(
@@ -137,8 +138,7 @@ fn make(world: &World) -> Option<Key> {
     Some(key)
 }
 
-/// Clears two objects of the lane that all share: the thread carries the block of the second then, and that of the first goes home. It makes
-/// two again, and clears the last.
+/// Clears two objects of the lane that all share. It makes two again, and clears the last.
 fn clear_and_make(world: &World) {
     let keys = [make(world), make(world)];
     for key in keys {
@@ -152,12 +152,6 @@ fn clear_made(world: &World, key: Option<Key>) {
     if let Some(key) = key {
         world.count(world.pool.clear(key));
     }
-}
-
-/// Each thread used its objects again.
-fn made_again(world: World) {
-    assert!(alive() <= 4, "a block is carried, and another one is made");
-    world.settle();
 }
 
 /// A clear of what the lane itself holds.

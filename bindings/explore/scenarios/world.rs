@@ -84,13 +84,11 @@ pub struct Within {
 pub struct Scenario {
     pub name: &'static str,
     pub extent: Extent,
-    /// How many objects are left by each schedule, since a thread forgot them.
-    left: usize,
     /// Whether memory is left that is of no object, as a payload that the crate forgets.
     forgets: bool,
     /// Whether objects are emptied within the calls.
     plain: bool,
-    run: Box<dyn Fn(Plan<'_>, usize) -> Report>,
+    run: Box<dyn Fn(Plan<'_>) -> Report>,
 }
 
 impl Scenario {
@@ -107,18 +105,17 @@ impl Scenario {
             pardz::lends_after(NEVER);
             set_up()
         };
-        let run = move |plan: Plan<'_>, left| {
+        let run = move |plan: Plan<'_>| {
             let end = |world| {
                 finish(world);
                 assert!(pardz::empties_none(), "an object is emptied still");
-                assert_eq!(ALIVE.swap(0, SeqCst), left, "objects are left");
+                assert_eq!(ALIVE.swap(0, SeqCst), 0, "objects are left");
             };
             explorer::explore(plan, begin, &works, end)
         };
         Scenario {
             name,
             extent: Extent::All,
-            left: 0,
             forgets: false,
             plain: false,
             run: Box::new(run),
@@ -131,12 +128,7 @@ impl Scenario {
         Scenario { extent, ..self }
     }
 
-    /// A thread forgets so many objects.
-    pub fn leaving(self, left: usize) -> Scenario {
-        Scenario { left, ..self }
-    }
-
-    /// The crate forgets a payload.
+    /// The crate forgets a payload, or a thread a filling.
     pub fn forgetting(self) -> Scenario {
         Scenario {
             forgets: true,
@@ -157,11 +149,11 @@ impl Scenario {
         let plan = Plan {
             name: self.name,
             extent: self.extent,
-            forgets: self.forgets || self.left > 0,
+            forgets: self.forgets,
             most: within.most,
             old_looks: within.old_looks,
         };
-        (self.run)(plan, self.left)
+        (self.run)(plan)
     }
 }
 

@@ -27,8 +27,9 @@ pub trait Clear {
     /// Empties the object. It runs when the key was cleared and the last reference is gone, on the thread that let go last, before
     /// its call returns. (That call may also be a get or a clear of the key that was under way then, and finds nothing.)
     ///
-    /// It may call the pool again, by the same lane too. What it clears in its own segment by the same lane is emptied in turn when it
-    /// has returned: so a chain of any length needs no deeper stack. (What it clears in other segments is emptied at once, and so is what
+    /// It may call the pool again, by the same lane too. The object's place is free to be filled once it has returned. What it clears in its
+    /// own segment by the same lane is emptied in turn when it has returned: so a chain of any length needs no deeper stack. (Without memory
+    /// to let one wait, that is emptied at once, and dropped. What it clears in other segments is emptied at once, and so is what
     /// it clears where it empties a filling that is dropped.) Where it panics the object is dropped, and its place is free all the same;
     /// if that drop panics as well, the process aborts. Where
     /// it runs since the thread unwinds already, and panics, that second panic goes no further. Neither does one where another one of the
@@ -47,9 +48,8 @@ pub trait Clear {
 }
 
 /// Whether a type's `clear` and its `default` run no code but this crate's and the standard library's: they neither panic nor call a pool,
-/// nor ask for or free memory. So nobody looks for that, and they may run under a lane's lock. Nor does its drop panic; and an object has a
-/// byte that isn't 0, and none between its fields, so that it is told from zeros: it stands in its place itself. (A type of this crate alone
-/// can say so.)
+/// nor ask for or free memory. So nobody looks for that, they may run under a lane's lock, and an object is emptied as it is filled again. Nor
+/// does its drop panic. (A type of this crate alone can say so.)
 #[doc(hidden)]
 #[derive(Clone, Copy)]
 pub struct Plain(pub(crate) bool);

@@ -260,7 +260,10 @@ impl<T: Clear + Default, C: Config> Pool<T, C> {
     /// the last reference, or makes a get or a clear of the key just then, or here.
     #[inline(always)]
     pub fn clear(&self, key: usize) -> bool {
-        key_of::<C>(key).is_some_and(|key| self.inner.clear(key))
+        match key_of::<C>(key) {
+            Some(key) => self.inner.clear(key),
+            None => false,
+        }
     }
 }
 

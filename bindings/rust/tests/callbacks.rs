@@ -217,6 +217,94 @@ fn a_default_that_creates() {
     assert_eq!((census.present, census.free, census.filling), (15, 1, 0));
 }
 
+thread_local! {
+    static OTHERS: OnceCell<Lane<'static, Other>> = const { OnceCell::new() };
+    static MADE: Cell<usize> = const { Cell::new(0) };
+    static MORE: RefCell<Vec<Result<Key, CreateError>>> = const { RefCell::new(Vec::new()) };
+}
+
+/// When it is emptied it clears others, and makes as many more as `makes` says.
+#[derive(Debug)]
+struct Other {
+    clears: Vec<Key>,
+    makes: usize,
+}
+
+impl Default for Other {
+    fn default() -> Other {
+        MADE.set(MADE.get() + 1);
+        Other {
+            clears: Vec::new(),
+            makes: 0,
+        }
+    }
+}
+
+impl Clear for Other {
+    fn clear(&mut self) {
+        OTHERS.with(|lane| {
+            let lane = lane.get().unwrap();
+            assert!(self.clears.drain(..).all(|key| lane.clear(key)));
+            let more = (0..self.makes).map(|_| lane.create_with(|_| ()));
+            MORE.with_borrow_mut(|all| all.extend(more));
+        });
+        self.makes = 0;
+    }
+}
+
+/// On a thread whose lane has so many places.
+fn with_others(places: u32, with: impl FnOnce(&Lane<'static, Other>) + Send + 'static) {
+    let _limit = limit();
+    let pool = Arc::new(Pool::<Other>::open(shape(1, places, 1)).unwrap());
+    let lane = pool.lane_owned().unwrap();
+    thread::spawn(move || {
+        OTHERS.with(|place| assert!(place.set(lane).is_ok()));
+        OTHERS.with(|lane| with(lane.get().unwrap()));
+    })
+    .join()
+    .unwrap();
+    let census = Arc::into_inner(pool).unwrap().close();
+    assert_eq!(census.present + census.free, places);
+}
+
+/// What an object clears while it is emptied waits out of its place, and is used for a place that has none.
+#[test]
+fn objects_out_of_their_places_are_used_again() {
+    with_others(4, |lane| {
+        for _ in 0..10 {
+            let clears: Vec<_> = (0..3).map(|_| lane.create_with(|_| ()).unwrap()).collect();
+            let last = lane.create_with(|other| other.clears = clears).unwrap();
+            assert!(lane.clear(last));
+        }
+        assert_eq!(MADE.get(), 4);
+    });
+}
+
+/// A place whose object is being emptied is free to be filled behind that: a create in between takes another one, or finds all full.
+#[test]
+fn a_place_is_free_once_its_object_is_empty() {
+    with_others(2, |lane| {
+        for _ in 0..5 {
+            let key = lane.create_with(|other| other.makes = 3).unwrap();
+            assert!(lane.clear(key));
+            let more = MORE.take();
+            assert!(more[0].is_ok());
+            assert_eq!(more[1..], [Err(CreateError::Full); 2]);
+            let filling = lane.create().expect("the place is free now");
+            assert_eq!(
+                (filling.makes, lane.create().err()),
+                (0, Some(CreateError::Full))
+            );
+            drop(filling);
+            assert!(lane.clear(more[0].unwrap()));
+        }
+        assert_eq!(MADE.get(), 2);
+        // (The last one is set aside as the pool is closed.)
+        let key = lane.create_with(|other| other.makes = 2).unwrap();
+        assert!(lane.clear(key));
+    });
+}
+
 #[test]
 fn closures_that_create() {
     let pool = Pool::<Vec<u64>>::open(shape(1, 4, 1)).unwrap();

@@ -69,10 +69,9 @@ fn objects_of_shared_lanes_are_used_again() {
     assert_eq!(MADE[1].load(SeqCst), 1);
 }
 
-/// A thread that empties an object of a shared lane uses it for its next owned one, and gives back the one that it had. (It lends no lane
-/// yet.)
+/// Of a shared lane too each place has one object, which is made once. (The thread lends no lane yet.)
 #[test]
-fn carried_objects_are_used_again() {
+fn each_place_has_one_object() {
     let pool = Pool::<Made<4>>::open(shape(2, 4)).unwrap();
     let fill_two = || {
         [(); 2].map(|()| {
@@ -86,12 +85,12 @@ fn carried_objects_are_used_again() {
             assert!(pool.clear(key));
         }
     }
-    assert_eq!(MADE[4].load(SeqCst), 2);
+    assert_eq!(MADE[4].load(SeqCst), 4);
 }
 
-/// Who empties an object of another lane gives it back to that one.
+/// An object stays in its place, whoever empties it, and is used there again.
 #[test]
-fn objects_come_home() {
+fn objects_stay_in_their_places() {
     let pool = Pool::<Made<2>>::open(shape(2, 4)).unwrap();
     let (lane, other) = (pool.lane().unwrap(), pool.lane().unwrap());
     for _ in 0..50 {
@@ -101,7 +100,7 @@ fn objects_come_home() {
             scope.spawn(|| assert!(pool.clear(key)));
         });
     }
-    assert_eq!(MADE[2].load(SeqCst), 1);
+    assert_eq!(MADE[2].load(SeqCst), 4);
 }
 
 #[test]

@@ -204,7 +204,6 @@ fn in_drop() {
         let alive = Arc::new(AtomicUsize::new(0));
         let pool = Pool::<Touchy>::open(shape(64)).unwrap();
         let lane = pool.lane().unwrap();
-        // (They stand in several chunks, of which that of the last goes first.)
         let keys: Vec<Key> = (0..60)
             .map(|number| {
                 let when = if number == 53 {
@@ -215,10 +214,14 @@ fn in_drop() {
                 lane.create_with(|object| object.set(&alive, when)).unwrap()
             })
             .collect();
-        // Two of them are spare then.
+        // Two of them are empty then. And another lane has four.
         assert!(lane.clear(keys[0]) && lane.clear(keys[57]));
+        for _ in 0..4 {
+            let of_others = pool.create_with(|object| object.set(&alive, When::Never));
+            assert!(of_others.is_ok());
+        }
         drop(lane);
-        assert_eq!(alive.load(SeqCst), 60);
+        assert_eq!(alive.load(SeqCst), 64);
         panics(|| match close {
             true => pool.close().present,
             false => {

@@ -337,7 +337,7 @@ fn each_request_of_buffers_is_refused() {
 
 #[test]
 fn each_request_of_texts_is_refused() {
-    refuse_each(texts, 20);
+    refuse_each(texts, 19);
 }
 
 #[test]

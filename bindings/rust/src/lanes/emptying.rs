@@ -1,29 +1,29 @@
-//! Who empties the objects of the places that a lane's calls reclaim. Code of others does so behind the call. An object of a plain type stays
-//! in its place as it is, and is emptied as a filling begins with it, in front of all that reads it.
+//! What becomes of the objects of the places that a lane's calls reclaim. Code of others empties them behind the call, in their places, which
+//! hazards keep from being filled until then. One of a plain type is emptied as a filling begins with it, in front of all that reads it.
 use super::seat::Post;
 use super::turn::Turn;
 use crate::clear::Clear;
 use crate::erased::shardpool::Emptier;
 use crate::key::Key;
-use crate::object::{Hooked, Placed};
+use crate::object::Placed;
 use std::ptr::NonNull;
 
-/// For one call of a lane, for this key. (A copy of him does the same: all that he does is done to the lane.)
-pub(super) struct Emptying<'s, T: Clear> {
+/// For one call of a lane, for this key, whose object may be empty. (A copy of him does the same: all that he does is done to the lane.)
+pub(super) struct Emptying<'s, T: Clear, const IS_EMPTY: bool = false> {
     post: Post<'s, T>,
     key: Key,
 }
 
-impl<T: Clear> Clone for Emptying<'_, T> {
+impl<T: Clear, const IS_EMPTY: bool> Clone for Emptying<'_, T, IS_EMPTY> {
     #[inline(always)]
     fn clone(&self) -> Self {
         *self
     }
 }
 
-impl<T: Clear> Copy for Emptying<'_, T> {}
+impl<T: Clear, const IS_EMPTY: bool> Copy for Emptying<'_, T, IS_EMPTY> {}
 
-impl<'s, T: Clear> Emptying<'s, T> {
+impl<'s, T: Clear, const IS_EMPTY: bool> Emptying<'s, T, IS_EMPTY> {
     /// # Safety
     ///
     /// It is used within one call of a turn of this lane, which isn't used otherwise meanwhile.
@@ -40,10 +40,24 @@ impl<'s, T: Clear> Emptying<'s, T> {
     }
 }
 
-impl<T: Clear> Emptier<Placed<T>> for Emptying<'_, T> {
+impl<T: Clear, const IS_EMPTY: bool> Emptier<Placed<T>> for Emptying<'_, T, IS_EMPTY> {
     #[inline(always)]
     fn empty(&mut self, object: &mut Placed<T>) {
-        if self.key.shard() == self.post.number() {
+        let (post, home) = (self.post, self.key.shard());
+        let is_own = home == post.number();
+        if !T::plain().0 && !IS_EMPTY {
+            let hazard = if is_own {
+                post.own_hazard()
+            } else {
+                post.segment().hazard(home, post.number())
+            };
+            if !hazard.begin(object) {
+                // SAFETY: the call reclaimed the place, so that its object is this lane's.
+                return unsafe { self.turn().take_apart(home, object) };
+            }
+            self.turn().take_out(home, hazard);
+        }
+        if is_own && Placed::<T>::MOVES {
             self.turn().store().warm = Some(NonNull::from(object));
         }
     }
@@ -52,21 +66,11 @@ impl<T: Clear> Emptier<Placed<T>> for Emptying<'_, T> {
     #[inline(always)]
     fn retire(&mut self, object: Placed<T>) {
         // SAFETY: it is the object of the key's place, which the call reclaimed.
-        unsafe { self.turn().put_back(self.key, object) };
-    }
-}
-
-impl<T: Clear> Emptier<Hooked<T>> for Emptying<'_, T> {
-    #[inline(always)]
-    fn empty(&mut self, object: &mut Hooked<T>) {
-        // SAFETY: it was in the place of a key, which is one of an opened page.
-        if let Some(block) = unsafe { object.unhook() } {
-            self.turn().store().taken.push(block);
+        let place = unsafe { self.turn().put_back(self.key, object) };
+        if let (Some(mut place), false) = (place, T::plain().0) {
+            // SAFETY: nobody else reaches it before the close, but by the hazard.
+            self.empty(unsafe { place.as_mut() });
+            self.turn().store().warm = None;
         }
-    }
-
-    #[inline(always)]
-    fn retire(&mut self, mut object: Hooked<T>) {
-        self.empty(&mut object);
     }
 }

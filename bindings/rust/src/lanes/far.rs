@@ -6,7 +6,6 @@ use super::token::{Begun, Far, Held, Spend, Spent};
 use crate::clear::Clear;
 use crate::errors::{CreateError, GetError};
 use crate::key::Key;
-use crate::object::Block;
 use crate::sync::{AtomicPtr, AtomicUsize, Ordering};
 use std::mem::ManuallyDrop;
 use std::process;
@@ -36,7 +35,7 @@ impl<T: Clear> Room<T> {
         if let Some(created) = lendable.and_then(|own| self.create_lent(own)) {
             return created;
         }
-        match self.create_by_last(|post| self.carried(post), Joint::come) {
+        match self.create_by_last(Joint::come) {
             Some(begun) => Ok(begun),
             None => Begun::by_parts(self.create_owned_further()),
         }
@@ -49,17 +48,6 @@ impl<T: Clear> Room<T> {
         T: Default,
     {
         self.create_growing(|| self.create_in_shared(Joint::come))
-    }
-
-    /// The block that the thread carries, where that is of the lane of this seat. (Of plain types it has none.)
-    #[inline(always)]
-    fn carried(&self, post: Post<'_, T>) -> Option<Block<T>> {
-        if T::plain().0 {
-            return None;
-        }
-        // SAFETY: the seat is of this pool.
-        let own = unsafe { self.known()?.within(post.segment()) };
-        own?.carried(post.number())
     }
 
     #[inline(always)]

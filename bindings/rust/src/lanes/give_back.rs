@@ -1,9 +1,9 @@
 //! How a filling that isn't published gives its place back.
+use super::hazard::Used;
 use super::seat::Stands;
 use super::token::Begun;
 use super::turn::Turn;
 use crate::clear::Clear;
-use crate::object::Block;
 use std::panic::{self, AssertUnwindSafe};
 use std::{mem, thread};
 
@@ -17,24 +17,23 @@ impl<'s, T: Clear, P: Stands<'s, T>> Turn<'s, T, P> {
         &mut self,
         begun: Begun<'_, T, W>,
         is_empty: bool,
-    ) -> Option<Block<T>> {
+    ) -> Option<Used<'s, T>> {
         // SAFETY: the caller's.
         let key = unsafe { self.publish(begun) };
-        self.clear(key);
-        // (None where somebody guessed the key, and has a reference.)
-        let block = self.taken()?;
-        if !is_empty {
-            return Some(block);
+        if is_empty {
+            self.clear_emptied(key);
+        } else {
+            self.clear(key);
         }
-        self.put_away(block);
-        None
+        // (None where somebody guessed the key, and has a reference.)
+        self.taken()
     }
 }
 
 /// The place comes back even where `clear` panics, which loses the object.
 struct Back<'s, T: Clear, W, F>
 where
-    F: FnMut(Begun<'s, T, W>, bool) -> Option<Block<T>>,
+    F: FnMut(Begun<'s, T, W>, bool) -> Option<Used<'s, T>>,
 {
     begun: Option<Begun<'s, T, W>>,
     is_empty: bool,
@@ -43,7 +42,7 @@ where
 
 impl<'s, T: Clear, W, F> Drop for Back<'s, T, W, F>
 where
-    F: FnMut(Begun<'s, T, W>, bool) -> Option<Block<T>>,
+    F: FnMut(Begun<'s, T, W>, bool) -> Option<Used<'s, T>>,
 {
     fn drop(&mut self) {
         if let Some(begun) = self.begun.take() {
@@ -56,7 +55,7 @@ where
 /// Empties the object of a filling, and gives its place back: by a publish and a clear, for which this turns to the lane.
 pub(super) fn give_back<'s, T: Clear, W>(
     begun: Begun<'s, T, W>,
-    publish_and_clear: impl FnMut(Begun<'s, T, W>, bool) -> Option<Block<T>>,
+    publish_and_clear: impl FnMut(Begun<'s, T, W>, bool) -> Option<Used<'s, T>>,
 ) {
     let mut back = Back {
         begun: Some(begun),

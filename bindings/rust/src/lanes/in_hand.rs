@@ -5,7 +5,6 @@ use super::room::Room;
 use super::seat::{Near, Post, Seat, Stands};
 use super::segment::{Segment, Sight};
 use super::token::{Begun, By, Held, InHand, Spend, Spent};
-use super::turn::Brought;
 use super::who::Number;
 use crate::clear::Clear;
 use crate::errors::{CreateError, GetError};
@@ -97,7 +96,7 @@ impl<'p, T: Clear> Hand<'p, T> {
     where
         T: Default,
     {
-        let apart = |own, brought| self.create_apart(own, brought);
+        let apart = |own| self.create_apart(own);
         Ok(Spent::new(self.own().create(apart)?))
     }
 
@@ -107,12 +106,11 @@ impl<'p, T: Clear> Hand<'p, T> {
     fn create_apart<'s>(
         &'s self,
         own: Own<'s, T, Near<'s, T>>,
-        brought: Brought<T>,
     ) -> Result<Begun<'s, T, InHand<T>>, CreateError>
     where
         T: Default,
     {
-        let created = match own.create_apart(brought) {
+        let created = match own.create_apart() {
             Err(CreateError::Full) => create_further(own),
             created => created,
         };
@@ -123,7 +121,7 @@ impl<'p, T: Clear> Hand<'p, T> {
     pub(crate) fn get(&self, key: Key) -> Option<Spent<Held<'_, T, InHand<T>>>> {
         let own = self.own();
         match own.segment().sight(key) {
-            Sight::There(_) => own.get(key).map(Spent::new),
+            Sight::There => own.get(key).map(Spent::new),
             Sight::Gone => None,
             Sight::Foreign => {
                 // (Here, where the compiler sees that it is so of no other.)
@@ -151,8 +149,8 @@ impl<'p, T: Clear> Hand<'p, T> {
     #[inline(always)]
     pub(crate) fn clear(&self, key: Key) -> bool {
         let own = self.own();
-        match own.segment().sight(key) {
-            Sight::There(_) => own.clear(key),
+        match own.segment().sight_to_clear(key) {
+            Sight::There => own.clear(key),
             Sight::Gone => false,
             Sight::Foreign => self.clear_elsewhere(key),
         }

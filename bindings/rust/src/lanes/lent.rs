@@ -6,7 +6,6 @@ use super::seat::Post;
 use super::segment::Segment;
 use super::threads::{self, Within};
 use super::token::{Begun, Far, Held};
-use super::turn::Brought;
 use super::who::Caller;
 use crate::clear::Clear;
 use crate::errors::CreateError;
@@ -138,7 +137,7 @@ impl<T: Clear> Room<T> {
         if own.is_emptying() {
             return None;
         }
-        match own.create(|own, brought| create_apart(own, brought)) {
+        match own.create(create_apart) {
             Ok(begun) => {
                 self.lend(begun.post());
                 Some(Ok(begun))
@@ -217,12 +216,9 @@ impl<T: Clear> Room<T> {
 /// A create of a lane without a place at hand.
 #[cold]
 #[inline(never)]
-fn create_apart<'s, T: Clear + Default>(
-    own: Own<'s, T>,
-    brought: Brought<T>,
-) -> Result<Begun<'s, T, Far>, CreateError> {
+fn create_apart<'s, T: Clear + Default>(own: Own<'s, T>) -> Result<Begun<'s, T, Far>, CreateError> {
     let _within = Within::new();
-    own.create_apart(brought)
+    own.create_apart()
 }
 
 /// A handle to which a lane is lent, until this is dropped: then it has ended.

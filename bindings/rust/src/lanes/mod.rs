@@ -10,19 +10,21 @@
 //! | `publish`, `downgrade` | that the lane made the filling, and hasn't published it (`Made`) | a [`Begun`](token::Begun), which has the lane's seat, and is spent by the call |
 //! | `release`, `read` | that the lane has a reference to the key | a [`Held`](token::Held), likewise |
 //! | `close` | all lanes of the pool, each once | `Segment::end` takes the seats as `open` gave them; that the pool is ours alone then is told by `&mut`, for a lane in hand borrows it, or has a share of it, and by `Room::shares`, for a lane of owned handles has a share of its memory |
-//! | the emptier of objects | that it empties, keeps the room, takes no memory and ends; and, since the translator copies it, that it keeps nothing in itself | [`Emptying`](emptying::Emptying), which is a lane and a key, and takes a block out; or leaves a plain object as it is, which is emptied as a filling begins with it ([`Placed`](crate::object::Placed)), in front of all that reads it |
-//! | (a place at rest) | that nobody writes its object | the one that a lane's create swaps is of the lane's own list: the last that the lane emptied, with no create since ([`Store`](seat::Store)) |
-//! | all of a pool, of a lane | the one or the other, as its objects stand | [`Either`](proved::Either), which asks their type each time |
-//! | (a block of a lane) | that its chunk is there for as long as the block is anywhere (`Block::begin`) | no block leaves its segment, whose chunks go at its close; what a call gave borrows the pool or has a share of its room, so that the close comes behind |
+//! | the emptier of objects | that it empties, keeps the room, takes no memory and ends; and, since the translator copies it, that it keeps nothing in itself | [`Emptying`](emptying::Emptying), which is a lane and a key. It leaves the object as it is: a plain one is emptied as a filling begins with it, in front of all that reads it; any other in its place behind the call, as long as a [`Hazard`](hazard::Hazard) has the place, or out of it |
+//! | (a place of a filling) | that nobody writes its object | a [careful](careful) create doesn't give a place that a hazard has |
+//! | (a place at rest) | the same | the one that a lane's create exchanges is of the lane's own list: the last that the lane gave back, with no create since ([`Store`](seat::Store)), and emptied by now |
+//! | (an object of a published key) | that there is one | a [`Begun`](token::Begun) without one is told apart until it has one ([`filled`](token::Begun::filled)), in front of all that publishes it |
 //!
 //! A get or a clear of a key that its segment [lacks](segment::Segment::lacks), as a load tells, makes no call.
 //!
 //! Outside of this module there are [`Hand`], a pool's [`Share`] of its [`Room`](room::Room), and what their calls give, all of which
 //! move: so that a filling is published once, and a reference is released once. None of its functions that are `pub(crate)` asks anything
 //! of its caller.
+mod careful;
 mod emptying;
 mod far;
 mod give_back;
+mod hazard;
 mod in_hand;
 mod kept;
 mod lent;

@@ -4,11 +4,10 @@ use super::give_back::give_back;
 use super::own::Own;
 use super::room::Room;
 use super::seat::{Near, Post, Stands};
-use super::segment::{Segment, Sight};
+use super::segment::Segment;
 use super::shared::NotShared;
 use super::threads::{self, Within};
 use super::token::{Begun, By, Held, OfThread, Spend, Spent};
-use super::turn::Brought;
 use super::who::Caller;
 use crate::clear::Clear;
 use crate::errors::{CreateError, GetError};
@@ -58,7 +57,7 @@ impl<T: Clear> Room<T> {
         T: Default,
     {
         let begun = match self.known() {
-            Some(own) => own.create(|own, brought| self.create_apart(own, brought)),
+            Some(own) => own.create(|own| self.create_apart(own)),
             None => Begun::by_parts(self.create_by_caller()),
         };
         begun.map(Spent::new)
@@ -72,7 +71,7 @@ impl<T: Clear> Room<T> {
         self.first()?;
         let _within = Within::new();
         match self.caller_for_create() {
-            Caller::Own(own) => own.create(|own, brought| self.create_apart(own, brought)),
+            Caller::Own(own) => own.create(|own| self.create_apart(own)),
             Caller::Lending(number) => self.create_by_lending(number),
             Caller::Sharing => self.create_by_sharing(),
         }
@@ -84,7 +83,7 @@ impl<T: Clear> Room<T> {
         T: Default,
     {
         let post = self.last_post(number).expect("a segment is open");
-        match post.shared_create(None, |_| ()) {
+        match post.shared_create(|_| ()) {
             Ok(Ok(begun)) => Ok(begun),
             _ => self.create_by_sharing(),
         }
@@ -93,23 +92,18 @@ impl<T: Clear> Room<T> {
     /// A create where the thread's lane has no place on its own list.
     #[cold]
     #[inline(never)]
-    fn create_apart<'s>(
-        &'s self,
-        own: Own<'s, T>,
-        brought: Brought<T>,
-    ) -> Result<Begun<'s, T, OfThread<T>>, CreateError>
+    fn create_apart<'s>(&'s self, own: Own<'s, T>) -> Result<Begun<'s, T, OfThread<T>>, CreateError>
     where
         T: Default,
     {
         let _within = Within::new();
         if !self.passes(own.post().number()) {
-            return match own.create_apart(brought) {
+            return match own.create_apart() {
                 Err(CreateError::Full) => self.create_further(Some(own)),
                 created => created,
             };
         }
-        own.take_back(brought);
-        match self.create_by_last(|_| None, |_| ()) {
+        match self.create_by_last(|_| ()) {
             Some(begun) => Ok(begun),
             None => self.create_further(Some(own)),
         }
@@ -121,7 +115,7 @@ impl<T: Clear> Room<T> {
     where
         T: Default,
     {
-        match self.create_by_last(|_| None, |_| ()) {
+        match self.create_by_last(|_| ()) {
             Some(begun) => Ok(begun),
             None => self.create_further(None),
         }
@@ -232,45 +226,27 @@ impl<T: Clear> Room<T> {
         }
     }
 
-    /// A clear by the thread's own lane. The segment where that had a place last is looked at first, as most keys are of it.
+    /// A clear by the thread's own lane.
     #[inline(always)]
     fn clear_by_own(&self, own: Own<'_, T>, key: Key) -> bool {
-        let here = own.near();
-        match here.segment().sight(key) {
-            Sight::There(start) => self.clear_within(here, key, start),
-            Sight::Gone => false,
-            Sight::Foreign => self.clear_elsewhere(own, key),
-        }
-    }
-
-    /// A clear of the lane's segment.
-    #[inline(always)]
-    fn clear_within<'s>(&'s self, own: Own<'s, T, Near<'s, T>>, key: Key, start: u32) -> bool {
-        if key.shard() != own.post().number() {
-            own.segment().fetch_ahead(start);
-            if self.lanes.is_shared(key.shard()) {
-                return self.clear_of_shared(own, key);
-            }
-        }
-        own.clear(key)
-    }
-
-    /// A clear of the thread's own lane in another segment than it had a place last. (Apart, so that nothing leads back to the call's own
-    /// path.)
-    #[inline(never)]
-    fn clear_elsewhere<'s>(&'s self, own: Own<'s, T>, key: Key) -> bool {
-        let Some((segment, start)) = self.place_of(key) else {
+        let Some(segment) = self.segment_of(key) else {
             return false;
         };
         // SAFETY: it is of this pool.
-        let Some(own) = (unsafe { own.within(segment) }) else {
+        let Some(here) = (unsafe { own.within(segment) }) else {
             return self.clear_by_lock(Caller::Sharing, segment, key);
         };
-        if key.shard() == own.post().number() {
-            // SAFETY: the thread keeps the lane of this seat.
-            unsafe { self.had_place(own.post()) };
+        if key.shard() != here.post().number() {
+            if self.lanes.is_shared(key.shard()) {
+                return self.clear_of_shared(here, key);
+            }
+            return here.segment().has_to_clear(key) && here.clear(key);
         }
-        self.clear_within(own, key, start)
+        if here.post() != own.post() {
+            // SAFETY: the thread keeps the lane of this seat.
+            unsafe { self.had_place(here.post()) };
+        }
+        !here.segment().lacks(key) && here.clear(key)
     }
 
     #[inline(never)]
@@ -296,13 +272,16 @@ impl<T: Clear> Room<T> {
     #[inline(never)]
     fn clear_of_shared<'s>(&'s self, own: Own<'s, T, Near<'s, T>>, key: Key) -> bool {
         let (segment, shard) = (own.segment(), key.shard());
+        if !segment.has_to_clear(key) {
+            return false;
+        }
         let Some((cleared, taken)) = segment.post(shard).try_shared_clear(key) else {
             return own.clear(key);
         };
         self.frees_place(key);
         threads::set_last_shared(self.id(), shard);
-        if let Some(block) = taken {
-            own.let_go_of_shared(block);
+        if let Some(used) = taken {
+            own.let_go(used);
         }
         cleared
     }

@@ -1,10 +1,11 @@
 //! Calls of a lane that the thread has alone: without a lock.
+use super::hazard::Used;
 use super::room::Room;
 use super::seat::{Near, Post, Stands};
 use super::segment::Segment;
 use super::threads::Within;
 use super::token::{Begun, By, Held};
-use super::turn::{with_new, AtHand, Brought, Short, Turn};
+use super::turn::Turn;
 use crate::clear::Clear;
 use crate::errors::{CreateError, GetError};
 use crate::key::Key;
@@ -64,54 +65,43 @@ impl<'s, T: Clear, P: Stands<'s, T>> Own<'s, T, P> {
         self.segment().room()
     }
 
-    /// Empties what the last call took out, if it was the last to let go of an object. Calls that are made meanwhile, by `T::clear`,
+    /// Empties what the last call took out of use, if it was the last to let go of an object. Calls that are made meanwhile, by `T::clear`,
     /// leave theirs to this one.
     #[inline(always)]
     pub(super) fn finish(self) {
-        if let Some(block) = self.turn().taken() {
-            self.let_go(block);
+        let Some(is_apart) = self.turn().has_taken() else {
+            return;
+        };
+        if is_apart || self.turn().store().empties || thread::panicking() {
+            return finish_apart(self.post());
+        }
+        // SAFETY: it took one out, which isn't apart.
+        let place = unsafe { self.turn().taken_in_place() };
+        self.empty(|| place.empty());
+    }
+
+    /// Empties an object of this segment that was taken out of use.
+    #[inline(always)]
+    pub(super) fn let_go(self, used: Used<'_, T>) {
+        match used {
+            Used::InPlace(place) if !self.turn().store().empties && !thread::panicking() => {
+                self.empty(|| place.empty());
+            }
+            used => let_go_apart(self.post(), used),
         }
     }
 
-    /// Empties an object that was taken out of a place of this segment.
+    /// Empties an object, and those that wait then.
     #[inline(always)]
-    pub(super) fn let_go(self, block: Block<T>) {
-        self.let_go_to(block, Own::put_away);
-    }
-
-    /// The same of what a shared lane of this segment took out, whose block is carried then.
-    #[inline(always)]
-    pub(super) fn let_go_of_shared(self, block: Block<T>) {
-        self.let_go_to(block, Own::carry);
-    }
-
-    #[inline(always)]
-    fn let_go_to(self, block: Block<T>, to: impl FnOnce(Self, Block<T>)) {
-        if thread::panicking() {
-            self.empty_unwinding(block);
-        } else {
-            self.empty(block, to);
+    fn empty(self, empty: impl FnOnce()) {
+        self.turn().store().empties = true;
+        let others = Others(self, PhantomData);
+        empty();
+        if self.turn().has_waiting() {
+            self.empty_waiting();
         }
-    }
-
-    /// Carries a block of a shared lane. The one that was carried goes home.
-    #[inline(always)]
-    fn carry(self, block: Block<T>) {
-        if let Some(before) = self.turn().store().carried.pop() {
-            self.put_away(before);
-        }
-        self.turn().store().carried.push(block);
-    }
-
-    /// The block that is carried, where its home is the lane of this number.
-    #[inline(always)]
-    pub(super) fn carried(self, number: u32) -> Option<Block<T>> {
-        let block = self.turn().store().carried.pop()?;
-        if block.home() == number {
-            return Some(block);
-        }
-        self.turn().store().carried.push(block);
-        None
+        mem::forget(others);
+        self.turn().store().empties = false;
     }
 
     /// The same where that is rare.
@@ -124,27 +114,19 @@ impl<'s, T: Clear, P: Stands<'s, T>> Own<'s, T, P> {
             let own = unsafe { Own::of(post) };
             own.finish();
         }
-        if self.turn().has_taken() {
+        if self.turn().has_taken().is_some() {
             finish(self.post());
         }
     }
 
-    /// Empties an object, whose block goes there, and those that wait then.
-    #[inline(always)]
-    fn empty(self, mut block: Block<T>, to: impl FnOnce(Self, Block<T>)) {
-        if self.turn().store().empties {
-            return self.turn().store().used.push(block);
-        }
-        self.turn().store().empties = true;
-        let others = Others(self, PhantomData);
-        block.clear();
-        to(self, block);
+    /// Empties those that wait.
+    #[cold]
+    #[inline(never)]
+    fn empty_waiting(self) {
         while let Some(mut block) = self.waiting() {
             block.clear();
-            self.turn().put_away(block);
+            self.put_away(block);
         }
-        mem::forget(others);
-        self.turn().store().empties = false;
     }
 
     /// Whether an object of this segment is being emptied, by a call further out on the stack.
@@ -159,16 +141,6 @@ impl<'s, T: Clear, P: Stands<'s, T>> Own<'s, T, P> {
         self.turn().store().used.pop()
     }
 
-    /// The same where the thread unwinds, so that a panic would end the process: it is swallowed.
-    #[cold]
-    #[inline(never)]
-    fn empty_unwinding(self, block: Block<T>) {
-        self.turn().store().used.push(block);
-        if !mem::replace(&mut self.turn().store().empties, true) {
-            self.empty_others();
-        }
-    }
-
     /// Empties those that wait, where the thread unwinds.
     #[cold]
     #[inline(never)]
@@ -176,44 +148,29 @@ impl<'s, T: Clear, P: Stands<'s, T>> Own<'s, T, P> {
         while let Some(mut block) = self.waiting() {
             let emptied = panic::catch_unwind(AssertUnwindSafe(move || {
                 block.clear();
-                block
+                self.put_away(block);
             }));
-            match emptied {
-                Ok(block) => self.turn().put_away(block),
+            if let Err(payload) = emptied {
                 // (Its drop might panic in turn.)
-                Err(payload) => mem::forget(payload),
+                mem::forget(payload);
             }
         }
         self.turn().store().empties = false;
     }
 
-    /// A create of this segment; and `apart` where the lane's own list has no place.
+    /// A create of this segment; and `apart` where the lane has no place at hand.
     #[inline(always)]
     pub(super) fn create<W: By<T>>(
         self,
-        apart: impl FnOnce(Self, Brought<T>) -> Result<Begun<'s, T, W>, CreateError>,
+        apart: impl FnOnce(Self) -> Result<Begun<'s, T, W>, CreateError>,
     ) -> Result<Begun<'s, T, W>, CreateError>
     where
         T: Default,
     {
-        let brought = self.bring()?;
-        match self.turn().create(brought, AtHand::Listed) {
-            Ok(begun) => Ok(begun),
-            Err(Short::Failed(error)) => Err(error),
-            Err(Short::NoPlace(brought)) => Begun::by_parts(self.create_behind(brought, apart)),
-        }
-    }
-
-    /// What a create brings.
-    #[inline(always)]
-    fn bring(self) -> Result<Brought<T>, CreateError>
-    where
-        T: Default,
-    {
-        match self.turn().bring() {
-            Some(brought) => Ok(brought),
-            // SAFETY: the thread has the lane alone.
-            None => unsafe { make(self.post()) }.map(Some),
+        match self.turn().create() {
+            Some(begun) if begun.is_vacant() => Ok(fill(self.post(), begun)),
+            Some(begun) => Ok(begun),
+            None => Begun::by_parts(self.create_behind(apart)),
         }
     }
 
@@ -221,16 +178,15 @@ impl<'s, T: Clear, P: Stands<'s, T>> Own<'s, T, P> {
     #[inline(never)]
     fn create_behind<W: By<T>>(
         self,
-        brought: Brought<T>,
-        apart: impl FnOnce(Self, Brought<T>) -> Result<Begun<'s, T, W>, CreateError>,
+        apart: impl FnOnce(Self) -> Result<Begun<'s, T, W>, CreateError>,
     ) -> Result<Begun<'s, T, W>, CreateError>
     where
         T: Default,
     {
-        match self.turn().create(brought, AtHand::Any) {
-            Ok(begun) => Ok(begun),
-            Err(Short::Failed(error)) => Err(error),
-            Err(Short::NoPlace(brought)) => apart(self, brought),
+        match self.turn().create_at_hand() {
+            Some(begun) if begun.is_vacant() => Ok(fill(self.post(), begun)),
+            Some(begun) => Ok(begun),
+            None => apart(self),
         }
     }
 
@@ -244,21 +200,16 @@ impl<'s, T: Clear, P: Stands<'s, T>> Own<'s, T, P> {
     }
 
     #[inline]
-    pub(super) fn create_apart<W: By<T>>(
-        self,
-        brought: Brought<T>,
-    ) -> Result<Begun<'s, T, W>, CreateError>
+    pub(super) fn create_apart<W: By<T>>(self) -> Result<Begun<'s, T, W>, CreateError>
     where
         T: Default,
     {
-        self.turn().create_apart(brought)
-    }
-
-    /// The same, with its segment beside it.
-    #[inline(always)]
-    pub(super) fn near(self) -> Own<'s, T, Near<'s, T>> {
-        // SAFETY: the thread has the lane alone; and it is its segment.
-        unsafe { Own::of(Near::new(self.post(), NonNull::from(self.segment()))) }
+        let begun = self.turn().create_apart()?;
+        Ok(if begun.is_vacant() {
+            fill(self.post(), begun)
+        } else {
+            begun
+        })
     }
 
     /// The lane in this or another segment, if that has so many.
@@ -318,16 +269,12 @@ impl<'s, T: Clear, P: Stands<'s, T>> Own<'s, T, P> {
         })
     }
 
-    /// A block whose object is empty.
-    #[inline(always)]
+    /// An object out of its place is empty. (One of another lane is dropped.)
+    #[cold]
     fn put_away(self, block: Block<T>) {
-        self.turn().put_away(block);
-    }
-
-    /// What a create doesn't use.
-    #[inline]
-    pub(super) fn take_back(self, brought: Brought<T>) {
-        self.turn().take_back(brought);
+        if block.home() == self.post().number() {
+            self.turn().put_away(block);
+        }
     }
 }
 
@@ -367,7 +314,7 @@ impl<'s, T: Clear, P: Stands<'s, T>> Own<'s, T, P> {
         self,
         begun: Begun<'s, T, W>,
         is_empty: bool,
-    ) -> Option<Block<T>> {
+    ) -> Option<Used<'s, T>> {
         // SAFETY: the caller's.
         unsafe { self.turn().publish_and_clear(begun, is_empty) }
     }
@@ -379,8 +326,8 @@ impl<'s, T: Clear, P: Stands<'s, T>> Own<'s, T, P> {
     /// It is of this lane.
     pub(super) unsafe fn forget<W>(self, begun: Begun<'_, T, W>) {
         // SAFETY: the caller's.
-        if let Some(block) = unsafe { self.turn().leave(begun) } {
-            self.let_go(block);
+        if let Some(object) = unsafe { self.turn().leave(begun) } {
+            self.let_go(Used::Apart(self.post().number(), object));
         }
     }
 
@@ -393,7 +340,7 @@ impl<'s, T: Clear, P: Stands<'s, T>> Own<'s, T, P> {
     pub(super) unsafe fn release_only<W>(self, held: Held<'s, T, W>) -> bool {
         // SAFETY: the caller's.
         unsafe { self.turn().release(held) };
-        !self.turn().has_taken()
+        self.turn().has_taken().is_none()
     }
 
     /// Gives a reference back.
@@ -409,21 +356,52 @@ impl<'s, T: Clear, P: Stands<'s, T>> Own<'s, T, P> {
     }
 }
 
-/// A block with a new object, for a lane without a spare one.
-///
-/// # Safety
-///
-/// The thread has the lane alone.
+/// A filling of the lane gets an object, as its place has none.
 #[cold]
 #[inline(never)]
-unsafe fn make<T: Clear + Default>(post: Post<'_, T>) -> Result<Block<T>, CreateError> {
-    // SAFETY: the caller's, and the lane isn't lent meanwhile.
-    let own = unsafe { Own::of(post) };
+fn fill<'s, T: Clear + Default, W: By<T>>(
+    post: Post<'s, T>,
+    begun: Begun<'s, T, W>,
+) -> Begun<'s, T, W> {
+    // SAFETY: the thread has the lane alone, and it isn't lent meanwhile; and no code of `T` runs as long as the turn is used.
+    let turn = || unsafe { post.turn() };
     let _within = Within::new();
-    let wanted = own.turn().wants();
-    Ok(with_new(wanted, |object, chunk| {
-        own.turn().put(object, chunk)
-    })?)
+    let spare = turn().spare();
+    // SAFETY: the filling is of this lane.
+    begun.filled(spare, |begun| unsafe { turn().set_vacant_aside(begun) })
+}
+
+/// Empties what the last call took out of use, where it may be out of its place, or is to wait.
+#[cold]
+#[inline(never)]
+fn finish_apart<T: Clear>(post: Post<'_, T>) {
+    // SAFETY: the thread has the lane alone.
+    if let Some(used) = unsafe { post.turn() }.taken() {
+        let_go_apart(post, used);
+    }
+}
+
+/// Empties an object; or where one is being emptied further out on the stack, it waits for that; or where the thread unwinds, so that a panic
+/// would end the process, that is swallowed.
+#[cold]
+#[inline(never)]
+fn let_go_apart<T: Clear>(post: Post<'_, T>, used: Used<'_, T>) {
+    // SAFETY: the thread has the lane alone.
+    let own = unsafe { Own::of(post) };
+    if !own.turn().store().empties && !thread::panicking() {
+        return own.empty(|| {
+            if let Some(block) = used.empty() {
+                own.put_away(block);
+            }
+        });
+    }
+    match used.wait() {
+        Ok(block) => own.turn().store().used.push(block),
+        Err(used) => return used.empty_here(),
+    }
+    if !mem::replace(&mut own.turn().store().empties, true) {
+        own.empty_others();
+    }
 }
 
 /// Where an object's `clear` panicked: the others that wait are emptied all the same. A further panic loses its object alone.

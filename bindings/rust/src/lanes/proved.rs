@@ -1,31 +1,27 @@
-//! The proved pool and its lanes, whose objects stand in their places or in blocks: which of the two, the objects' type tells. And what is
-//! done alike with either.
+//! The proved pool and its lanes, whose objects stand in their places.
 use super::turn::Call;
-use crate::clear::Clear;
 use crate::erased::keybits::Shape;
 use crate::erased::poolsteps::{life_at, Whole};
 use crate::erased::shardpool::{
     self, Census, CreateFault, Emptier, Filling, Lane, OpenFault, Pool, Ref,
 };
-use crate::erased::slotcell;
-use crate::object::{Hooked, Placed, Source, Stored};
+use crate::object::Placed;
 use crate::shim::{self, Global, RowBlock};
-use std::marker::PhantomData;
 use std::mem::{self, ManuallyDrop};
-use std::ptr::NonNull;
+use std::ptr::{self, NonNull};
+use std::slice;
 
-pub(super) type ProvedPool<T> = Either<T, Opened<Placed<T>>, Opened<Hooked<T>>>;
-pub(super) type ProvedLane<T> = Either<T, Lane<Placed<T>>, Lane<Hooked<T>>>;
+pub(super) type ProvedLane<T> = Lane<Placed<T>>;
 
 /// A proved pool, and the row in which its lanes came.
-pub(super) struct Opened<O: slotcell::Clear> {
-    pub(super) pool: Pool<O>,
-    row: shim::Vec<Lane<O>>,
+pub(super) struct Opened<T> {
+    pub(super) pool: Pool<Placed<T>>,
+    row: shim::Vec<ProvedLane<T>>,
 }
 
-impl<O: slotcell::Clear> Opened<O> {
+impl<T> Opened<T> {
     /// A pool of this shape, with memory for rows of its lanes, which goes behind the close.
-    pub(super) fn open(shape: Shape, rows: &RowBlock) -> Result<Opened<O>, OpenFault> {
+    pub(super) fn open(shape: Shape, rows: &RowBlock) -> Result<Opened<T>, OpenFault> {
         let call = Call;
         // SAFETY: a call that panics ends the process; and the memory is there until the close.
         let opened = unsafe { rows.within(|| shardpool::open_wide(Global, shape)) };
@@ -34,30 +30,92 @@ impl<O: slotcell::Clear> Opened<O> {
         Ok(Opened { pool, row })
     }
 
+    /// The word of the place that stands there is to be written soon, and with `object` that too: they are fetched ahead, both at once, and
+    /// before they are read.
+    #[inline(always)]
+    pub(super) fn fetch_ahead(&self, start: u32, object: bool) {
+        let grid = &self.pool.grid;
+        grid.table.shared.fetch_ahead(life_at(start as usize));
+        if object {
+            shim::fetch_ahead(grid.objects.ptr.wrapping_add(start as usize));
+        }
+    }
+
     /// Its lanes, by their numbers.
-    pub(super) fn lanes(&mut self) -> impl Iterator<Item = Lane<O>> + '_ {
+    pub(super) fn lanes(&mut self) -> impl Iterator<Item = ProvedLane<T>> + '_ {
         self.row.drain()
     }
 
     /// Closes it, with its lanes: they go into the row in which they came, so it takes no memory. Its objects go, each once, those of fillings
-    /// that were leaked too.
-    pub(super) fn close<T>(self, lanes: impl Iterator<Item = Lane<O>>) -> Census
-    where
-        O: Stored<T>,
-    {
-        let Opened { pool, mut row } = self;
-        lanes.for_each(|lane| row.push_reserved(lane));
-        for lane in row.iter() {
-            let first = lane.state.objects.first();
-            for start in first..first + places_of(lane, lane.state.pages.opened()) {
-                // SAFETY: it is a place of an opened page, and the pool and its lanes are ours.
-                unsafe { O::close(place_at(lane, start as u32)) };
-            }
+    /// that were leaked too; where the drop of one panics, the others all the same.
+    pub(super) fn close(mut self, lanes: impl Iterator<Item = ProvedLane<T>>) -> Census {
+        lanes.for_each(|lane| self.row.push_reserved(lane));
+        let closing = Closing(ManuallyDrop::new(self));
+        if mem::needs_drop::<T>() {
+            closing.drop_objects();
         }
+        ManuallyDrop::new(closing).end()
+    }
+}
+
+/// A pool that closes, also where the drop of an object panics.
+struct Closing<T>(ManuallyDrop<Opened<T>>);
+
+impl<T> Closing<T> {
+    /// Drops what stands in the places of opened pages.
+    fn drop_objects(&self) {
+        Lanes(self.0.row.iter()).drop_objects();
+    }
+
+    /// Closes it, once.
+    fn end(&mut self) -> Census {
+        // SAFETY: the caller's.
+        let Opened { pool, row } = unsafe { ManuallyDrop::take(&mut self.0) };
         let call = Call;
         let census = shardpool::close(pool, row);
         call.end();
         census
+    }
+}
+
+impl<T> Drop for Closing<T> {
+    fn drop(&mut self) {
+        self.end();
+    }
+}
+
+/// Lanes whose objects are dropped with this, if they weren't before.
+struct Lanes<'c, T>(slice::Iter<'c, ProvedLane<T>>);
+
+impl<T> Lanes<'_, T> {
+    fn drop_objects(&mut self) {
+        for lane in self.0.by_ref() {
+            let first = lane.state.objects.first();
+            let count = places_of(lane, lane.state.pages.opened());
+            // SAFETY: the lane has so many places of opened pages from there on. The pool and its lanes are ours, and nobody uses what the places
+            // have any more. (Of a row where the drop of one panics, the others are dropped all the same.)
+            unsafe {
+                let at = place_at(lane, first as u32).as_ptr().cast::<Last<T>>();
+                ptr::drop_in_place(ptr::slice_from_raw_parts_mut(at, count));
+            }
+        }
+    }
+}
+
+impl<T> Drop for Lanes<'_, T> {
+    fn drop(&mut self) {
+        self.drop_objects();
+    }
+}
+
+/// A place of an opened page as its pool closes.
+#[repr(transparent)]
+struct Last<T>(Placed<T>);
+
+impl<T> Drop for Last<T> {
+    fn drop(&mut self) {
+        // SAFETY: nobody has what a call gave any more.
+        unsafe { Placed::drop_object(NonNull::from(&mut self.0)) };
     }
 }
 
@@ -67,48 +125,49 @@ impl<O: slotcell::Clear> Opened<O> {
 ///
 /// The caller has the filling of the place, which is spent.
 #[inline(always)]
-pub(super) unsafe fn cell<O>() -> Whole<O> {
-    const { assert!(mem::size_of::<Whole<O>>() == 0) };
+pub(super) unsafe fn cell<T>() -> Whole<Placed<T>> {
+    const { assert!(mem::size_of::<Whole<Placed<T>>>() == 0) };
+    let nowhere = NonNull::<Whole<Placed<T>>>::dangling();
     // SAFETY: it has no bytes, and the rest is the caller's.
-    unsafe { NonNull::<Whole<O>>::dangling().as_ptr().read() }
+    unsafe { nowhere.as_ptr().read() }
 }
 
-/// What a filling is made of: its key, where the key's place stands, and where its object does.
-pub(super) type Parts<T> = (u64, u32, NonNull<T>);
+/// What a filling is made of: its key, and where the key's place stands.
+pub(super) type Parts = (u64, u32);
 
-/// A create of the proved pool. `count` is called once there is a filling, before its object is emptied: behind that what is written into
-/// the object comes at once, so that the compiler knows how it is.
-///
-/// # Safety
-///
-/// The source is the lane's.
+/// A create of the proved pool.
 #[inline(always)]
-pub(super) unsafe fn create<T: Clear + Default, O: Stored<T>>(
-    pool: &Pool<O>,
-    lane: &mut Lane<O>,
-    source: &mut Source<T>,
-    count: impl FnOnce(),
-) -> Result<Parts<T>, CreateFault> {
+pub(super) fn create<T>(
+    pool: &Pool<Placed<T>>,
+    lane: &mut ProvedLane<T>,
+) -> Result<Parts, CreateFault> {
     let (key, start, _) = pool.create(lane)?.spend();
-    count();
-    // SAFETY: the filling's place stands there, and the rest is the caller's.
-    let object = unsafe { O::begin(place_at(lane, start), source) };
-    Ok((key, start, object))
+    Ok((key, start))
 }
 
 /// How many places a lane's first pages have, so many of them.
-fn places_of<O: slotcell::Clear>(lane: &Lane<O>, pages: u32) -> usize {
+fn places_of<T>(lane: &ProvedLane<T>, pages: u32) -> usize {
     let sizes = (0..pages).map(|page| lane.state.shape.page_size(page) as usize);
     sizes.sum()
 }
 
-/// Where an object of the lane's pool stands.
+/// The places of a lane have no objects yet that stand in pages which it opened: those behind so many pages.
+pub(super) fn open_places<T>(lane: &ProvedLane<T>, before: u32) {
+    let first = lane.state.objects.first();
+    let [begin, end] = [before, lane.state.pages.opened()].map(|pages| places_of(lane, pages));
+    for start in first + begin..first + end {
+        // SAFETY: it is a place of the lane's, which no call gave yet.
+        unsafe { Placed::open(place_at(lane, start as u32)) };
+    }
+}
+
+/// Where a place of the lane's pool stands.
 ///
 /// # Safety
 ///
 /// The pool has a place that stands there.
 #[inline(always)]
-unsafe fn place_at<O: slotcell::Clear>(lane: &Lane<O>, start: u32) -> NonNull<O> {
+pub(super) unsafe fn place_at<T>(lane: &ProvedLane<T>, start: u32) -> NonNull<Placed<T>> {
     // SAFETY: the caller's.
     unsafe { NonNull::new_unchecked(lane.state.objects.base().ptr.add(start as usize)) }
 }
@@ -119,9 +178,7 @@ unsafe fn place_at<O: slotcell::Clear>(lane: &Lane<O>, start: u32) -> NonNull<O>
 ///
 /// A create of this lane gave the parts, which are spent here.
 #[inline(always)]
-unsafe fn filling<T, O: Stored<T>>(lane: &Lane<O>, (key, start, object): Parts<T>) -> Filling<O> {
-    // SAFETY: the caller's.
-    unsafe { O::end(place_at(lane, start), object) };
+unsafe fn filling<T>(lane: &ProvedLane<T>, (key, start): Parts) -> Filling<Placed<T>> {
     let directory = lane.state.objects.base();
     // SAFETY: the caller's.
     let cell = unsafe { cell() };
@@ -130,11 +187,11 @@ unsafe fn filling<T, O: Stored<T>>(lane: &Lane<O>, (key, start, object): Parts<T
 
 /// A get of the proved pool: where the key's place stands, and where its object does. (By a pointer of which nobody looks whether it is null.)
 #[inline(always)]
-pub(super) fn get<T, O: Stored<T>>(
-    pool: &Pool<O>,
-    lane: &mut Lane<O>,
+pub(super) fn get<T>(
+    pool: &Pool<Placed<T>>,
+    lane: &mut ProvedLane<T>,
     key: u64,
-    emptier: impl Emptier<O>,
+    emptier: impl Emptier<Placed<T>>,
 ) -> Option<(u32, *mut T)> {
     let proved = pool.get_with(lane, key, emptier)?;
     // SAFETY: the lane has a reference to the key, so that is published.
@@ -148,11 +205,11 @@ pub(super) fn get<T, O: Stored<T>>(
 ///
 /// A get or a downgrade by this lane gave the reference, which is spent here.
 #[inline(always)]
-pub(super) unsafe fn release<O: slotcell::Clear>(
-    pool: &Pool<O>,
-    lane: &mut Lane<O>,
-    (key, start): (u64, u32),
-    emptier: impl Emptier<O>,
+pub(super) unsafe fn release<T>(
+    pool: &Pool<Placed<T>>,
+    lane: &mut ProvedLane<T>,
+    (key, start): Parts,
+    emptier: impl Emptier<Placed<T>>,
 ) {
     // SAFETY: the reference's place is one of the pool's, whose word its get or its publish has reached.
     unsafe { pool.grid.table.shared.has_word(life_at(start as usize)) };
@@ -164,9 +221,9 @@ pub(super) unsafe fn release<O: slotcell::Clear>(
 ///
 /// # Safety
 ///
-/// A create of this lane gave the parts, which are spent here.
+/// A create of this lane gave the parts, which are spent here. The place has an object.
 #[inline(always)]
-pub(super) unsafe fn publish<T, O: Stored<T>>(pool: &Pool<O>, lane: &mut Lane<O>, parts: Parts<T>) {
+pub(super) unsafe fn publish<T>(pool: &Pool<Placed<T>>, lane: &mut ProvedLane<T>, parts: Parts) {
     // SAFETY: the caller's.
     let proved = unsafe { filling(lane, parts) };
     // SAFETY: the filling's place is one of the pool's, whose word its create has reached.
@@ -180,10 +237,10 @@ pub(super) unsafe fn publish<T, O: Stored<T>>(pool: &Pool<O>, lane: &mut Lane<O>
 ///
 /// As of [`publish`].
 #[inline(always)]
-pub(super) unsafe fn downgrade<T, O: Stored<T>>(
-    pool: &Pool<O>,
-    lane: &mut Lane<O>,
-    parts: Parts<T>,
+pub(super) unsafe fn downgrade<T>(
+    pool: &Pool<Placed<T>>,
+    lane: &mut ProvedLane<T>,
+    parts: Parts,
 ) -> u32 {
     // SAFETY: the caller's.
     let proved = unsafe { filling(lane, parts) };
@@ -191,97 +248,3 @@ pub(super) unsafe fn downgrade<T, O: Stored<T>>(
     unsafe { pool.grid.table.shared.has_word(life_at(parts.1 as usize)) };
     pool.downgrade(lane, proved).start
 }
-
-/// What is `P` for a plain type, and else `B`. It is never dropped.
-pub(super) struct Either<T, P, B> {
-    is: Is<P, B>,
-    of: PhantomData<T>,
-}
-
-union Is<P, B> {
-    placed: ManuallyDrop<P>,
-    hooked: ManuallyDrop<B>,
-}
-
-impl<T: Clear, P, B> Either<T, P, B> {
-    pub(super) fn placed(value: P) -> Self {
-        assert!(T::plain().0);
-        let placed = ManuallyDrop::new(value);
-        Either {
-            is: Is { placed },
-            of: PhantomData,
-        }
-    }
-
-    pub(super) fn hooked(value: B) -> Self {
-        assert!(!T::plain().0);
-        let hooked = ManuallyDrop::new(value);
-        Either {
-            is: Is { hooked },
-            of: PhantomData,
-        }
-    }
-
-    #[inline(always)]
-    pub(super) fn as_placed(&self) -> &P {
-        assert!(T::plain().0);
-        // SAFETY: so it was made, as a type is plain or not for good.
-        unsafe { &self.is.placed }
-    }
-
-    #[inline(always)]
-    pub(super) fn as_hooked(&self) -> &B {
-        assert!(!T::plain().0);
-        // SAFETY: as above.
-        unsafe { &self.is.hooked }
-    }
-
-    #[inline(always)]
-    pub(super) fn as_placed_mut(&mut self) -> &mut P {
-        assert!(T::plain().0);
-        // SAFETY: as above.
-        unsafe { &mut self.is.placed }
-    }
-
-    #[inline(always)]
-    pub(super) fn as_hooked_mut(&mut self) -> &mut B {
-        assert!(!T::plain().0);
-        // SAFETY: as above.
-        unsafe { &mut self.is.hooked }
-    }
-
-    pub(super) fn into_placed(self) -> P {
-        assert!(T::plain().0);
-        // SAFETY: as above.
-        ManuallyDrop::into_inner(unsafe { self.is.placed })
-    }
-
-    pub(super) fn into_hooked(self) -> B {
-        assert!(!T::plain().0);
-        // SAFETY: as above.
-        ManuallyDrop::into_inner(unsafe { self.is.hooked })
-    }
-}
-
-/// The same expression of either.
-macro_rules! of_either {
-    ($type:ident, mut $either:expr, |$value:ident| $expression:expr) => {
-        if $type::plain().0 {
-            let $value = $either.as_placed_mut();
-            $expression
-        } else {
-            let $value = $either.as_hooked_mut();
-            $expression
-        }
-    };
-    ($type:ident, $either:expr, |$value:ident| $expression:expr) => {
-        if $type::plain().0 {
-            let $value = $either.as_placed();
-            $expression
-        } else {
-            let $value = $either.as_hooked();
-            $expression
-        }
-    };
-}
-pub(super) use of_either;

@@ -1,7 +1,7 @@
 //! A pool's segments. A lane stands for the same number in each that has it: who has it, has all of them.
 use super::lock::rest;
 use super::seat::Post;
-use super::segment::{row_for, Segment, Sight};
+use super::segment::{row_for, Segment};
 use super::sizes::{opens_for_many, shape_of, shares_home_behind, FOR_LANES, LANES, SHARED};
 use super::threads;
 use super::who::{first_bits, Lanes};
@@ -241,16 +241,6 @@ impl<T: Clear> Room<T> {
     #[inline(always)]
     pub(super) fn segment_with(&self, key: Key) -> Option<&Segment<T>> {
         self.segment_of(key).filter(|segment| !segment.lacks(key))
-    }
-
-    /// The segment of which a key's tag tells, and where the key's place stands there, unless a load tells that the key is gone.
-    #[inline(always)]
-    pub(super) fn place_of(&self, key: Key) -> Option<(&Segment<T>, u32)> {
-        let segment = self.segment_of(key)?;
-        match segment.sight(key) {
-            Sight::There(start) => Some((segment, start)),
-            Sight::Gone | Sight::Foreign => None,
-        }
     }
 
     /// Whether a thread whose own lane is full has a further segment opened, rather than turn to the lanes that all share: where many

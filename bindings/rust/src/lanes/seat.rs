@@ -1,4 +1,5 @@
-//! The seats of a segment: each has a lane of the proved pool, with its blocks.
+//! The seats of a segment: each has a lane of the proved pool, and what that has of objects.
+use super::hazard::Hazard;
 use super::lent::Lent;
 use super::lock::{Had, Lock};
 use super::proved::ProvedLane;
@@ -7,48 +8,51 @@ use super::token::By;
 use super::turn::Turn;
 use crate::clear::Clear;
 use crate::erased::keybits;
-use crate::object::{Block, Chain, Chunks, Placed, Returned};
-use crate::sync::{self, AtomicBool, AtomicU32, Ordering};
+use crate::object::{Chain, Placed};
+use crate::sync::{self, AtomicU32, Ordering};
 use std::cell::UnsafeCell;
 use std::marker::PhantomData;
-use std::mem;
+use std::mem::ManuallyDrop;
 use std::ptr::{self, NonNull};
 
-/// A lane of the proved pool with its blocks, on lines of the cache of its own.
+/// A lane of the proved pool, on lines of the cache of its own.
 #[repr(align(128))]
 pub(super) struct Seat<T: Clear> {
-    pub(super) lane: UnsafeCell<ProvedLane<T>>,
+    /// (It goes to the close.)
+    pub(super) lane: UnsafeCell<ManuallyDrop<ProvedLane<T>>>,
     pub(super) store: UnsafeCell<Store<T>>,
     pub(super) number: u32,
-    /// Whether a block of it ever came home.
-    have_come: AtomicBool,
     /// How many fillings its lane has, and how many pages it opened: for a census, and written by the lane alone.
     pub(super) fillings: AtomicU32,
     pub(super) opened: AtomicU32,
     lock: Lock,
     pub(super) lent: Lent,
     joint: UnsafeCell<Joint>,
+    /// The lane's own places that it gives back itself.
+    pub(super) hazard: Hazard<T>,
     /// The segment, once that stands where it stays; null before.
     segment: UnsafeCell<*const Segment<T>>,
 }
 
-/// The blocks of a lane that are in no place; of a plain type none.
+/// What a lane has of objects.
 pub(super) struct Store<T> {
-    /// Of a plain type: the place of the lane's own that it emptied last, if it began no filling since. So it rests with the lane.
+    /// The place of the lane's own that it gave back last, if it began no filling since. So it rests with the lane.
     pub(super) warm: Option<NonNull<Placed<T>>>,
-    /// With an empty object. The one that was used last goes first, so that those in use stay warm.
-    pub(super) spare: Chain<T>,
-    /// What the call under way took out of a place: one block at most, and none between calls.
-    pub(super) taken: Chain<T>,
-    /// With an object that is to be emptied.
-    pub(super) used: Chain<T>,
-    /// Whether one is being emptied, by a call further out on the stack.
+    /// Of a type that isn't plain: what the call under way took out of use, and none between calls. It is where the hazard has it; or it
+    /// waits apart, in its segment, where that is `APART`.
+    pub(super) taken: Option<NonNull<Hazard<T>>>,
+    /// The lane whose place that was.
+    pub(super) home: u32,
+    /// How many fillings are set aside.
+    pub(super) asides: u32,
+    /// Whether a place of those that other lanes returned last may be one whose object is being emptied.
+    pub(super) watches: bool,
+    /// Whether an object is being emptied, by a call further out on the stack.
     pub(super) empties: bool,
-    /// One of a shared lane, or none: the thread that has this lane emptied its object, and carries it to its next owned create by that
-    /// lane. (So it doesn't go home by a word that threads share, and back.)
-    pub(super) carried: Chain<T>,
-    /// The memory of the blocks whose home is the lane.
-    pub(super) chunks: Chunks<T>,
+    /// Objects out of their places that are to be emptied.
+    pub(super) used: Chain<T>,
+    /// Those of them that the lane emptied itself, for places of its own that have none.
+    pub(super) spare: Chain<T>,
 }
 
 /// What the explorer calls it.
@@ -85,7 +89,7 @@ impl Joint {
     }
 }
 
-// SAFETY: a seat is used by the one lane that has its number, or by the one call that has its lock, but for `returned`, the lock and the
+// SAFETY: a seat is used by the one lane that has its number, or by the one call that has its lock, but for the hazard, the lock and the
 // numbers, which are `Sync`, and the segment, which is written before there is a post. Objects are made, read, emptied and dropped by whichever thread has a lane.
 unsafe impl<T: Clear + Send + Sync> Sync for Seat<T> {}
 // SAFETY: as above; its segment has it.
@@ -95,22 +99,23 @@ impl<T: Clear> Seat<T> {
     pub(super) fn new(number: u32, lane: ProvedLane<T>) -> Seat<T> {
         Seat {
             number,
-            lane: UnsafeCell::new(lane),
+            lane: UnsafeCell::new(ManuallyDrop::new(lane)),
             store: UnsafeCell::new(Store {
                 warm: None,
-                spare: Chain::new(),
-                taken: Chain::new(),
-                used: Chain::new(),
+                taken: None,
+                home: 0,
+                asides: 0,
+                watches: false,
                 empties: false,
-                carried: Chain::new(),
-                chunks: Chunks::new(),
+                used: Chain::new(),
+                spare: Chain::new(),
             }),
-            have_come: AtomicBool::new(false),
             fillings: AtomicU32::new(0),
             opened: AtomicU32::new(0),
             lock: Lock::new(),
             lent: Lent::new(),
             joint: UnsafeCell::new(Joint::default()),
+            hazard: Hazard::new(),
             segment: UnsafeCell::new(ptr::null()),
         }
     }
@@ -123,16 +128,7 @@ impl<T: Clear> Seat<T> {
     pub(super) unsafe fn take_lane(&mut self) -> ProvedLane<T> {
         sync::writes(self.lane.get(), "a lane that is closed");
         // SAFETY: the caller's.
-        unsafe { self.lane.get().read() }
-    }
-
-    /// A close finds its blocks that are in no place.
-    pub(super) fn find_blocks(&mut self) {
-        sync::writes(self.store.get(), "the blocks of a lane that is closed");
-        let store = self.store.get_mut();
-        for chain in [&mut store.spare, &mut store.used, &mut store.carried] {
-            mem::replace(chain, Chain::new()).find();
-        }
+        unsafe { ManuallyDrop::take(self.lane.get_mut()) }
     }
 
     /// How many places the pages have that its lane opened.
@@ -167,6 +163,14 @@ impl<T: Clear> Clone for Post<'_, T> {
 }
 
 impl<T: Clear> Copy for Post<'_, T> {}
+
+/// Whether they are the same seat.
+impl<T: Clear> PartialEq for Post<'_, T> {
+    #[inline(always)]
+    fn eq(&self, other: &Self) -> bool {
+        self.seat == other.seat
+    }
+}
 
 /// A post, and how its segment is known.
 pub(super) trait Stands<'s, T: Clear>: Copy {
@@ -254,6 +258,12 @@ impl<'s, T: Clear> Post<'s, T> {
         unsafe { &**self.seat().segment.get() }
     }
 
+    /// The hazard of the places that the lane gives back to itself.
+    #[inline(always)]
+    pub(super) fn own_hazard(&self) -> &Hazard<T> {
+        &self.seat().hazard
+    }
+
     #[inline(always)]
     pub(super) fn number(self) -> u32 {
         self.seat().number
@@ -275,26 +285,6 @@ impl<'s, T: Clear> Post<'s, T> {
         let fillings = &self.seat().fillings;
         let now = fillings.load(Ordering::Relaxed);
         fillings.store(now.wrapping_add(more), Ordering::Relaxed);
-    }
-
-    /// A block of the seat's that the lane of this number returns.
-    pub(super) fn come_home(self, from: u32, block: Block<T>) {
-        let ways = self.segment().returned_to(self.number());
-        ways[from as usize].push(block);
-        let have_come = &self.seat().have_come;
-        if !have_come.load(Ordering::Relaxed) {
-            have_come.store(true, Ordering::Release);
-        }
-    }
-
-    /// Blocks that another lane returned, if there are some.
-    pub(super) fn take_returned(self) -> Option<Chain<T>> {
-        if !self.seat().have_come.load(Ordering::Acquire) {
-            return None;
-        }
-        let ways = self.segment().returned_to(self.number());
-        let mut taken = ways.iter().map(Returned::take);
-        taken.find(|chain| !chain.is_empty())
     }
 
     /// The same seat, as long as something else keeps it there.

@@ -1,5 +1,6 @@
 //! A segment: a proved pool with its lanes.
-use super::proved::{of_either, Either, Opened, ProvedPool};
+use super::hazard::{Apart, Hazard};
+use super::proved::{cell, Opened};
 use super::room::Room;
 use super::seat::{Near, Post, Seat};
 use super::who::first_bits;
@@ -8,19 +9,21 @@ use crate::erased::keybits::{self, generation_of, Life, State};
 use crate::erased::poolsteps::{life_at, shard_start, BYTES_APART, SHARDS_APART};
 use crate::errors::OpenError;
 use crate::key::Key;
-use crate::object::{self, Returned};
 use crate::pool::{Census, Shape};
-use crate::shim::{self, RowBlock};
+use crate::shim::RowBlock;
 use crate::sync::{AtomicPtr, Ordering};
 use std::mem::{self, ManuallyDrop};
 use std::ptr::{self, NonNull};
 
 /// The proved pool, with its lanes.
 pub(crate) struct Segment<T: Clear> {
-    proved: ManuallyDrop<ProvedPool<T>>,
+    proved: ManuallyDrop<Opened<T>>,
     seats: ManuallyDrop<Vec<Seat<T>>>,
-    /// The blocks that lanes returned: for each lane as many ways as there are lanes, by the number of the one that returns.
-    returned: ManuallyDrop<Vec<Returned<T>>>,
+    /// Of a type that isn't plain, for each lane a row of as many as there are lanes, by the number of the one that gives places of it back.
+    /// (The own one is the seat's.)
+    hazards: ManuallyDrop<Vec<Hazard<T>>>,
+    /// And for each lane the object that a call of it took out of its place.
+    apart: ManuallyDrop<Vec<Apart<T>>>,
     /// How many lanes are of the pool's shape: all, or all but the last, which threads share.
     told: u32,
     /// Memory for rows of the proved lanes, which go with the close.
@@ -31,8 +34,8 @@ pub(crate) struct Segment<T: Clear> {
 
 /// What loads tell of a key.
 pub(super) enum Sight {
-    /// It isn't known to be gone; where its place stands.
-    There(u32),
+    /// It isn't known to be gone.
+    There,
     /// Its place has a later generation.
     Gone,
     /// It is no key of the segment.
@@ -68,35 +71,44 @@ impl<T: Clear> Segment<T> {
         let checked = Shape { lanes, ..shape }.checked()?;
         let count = lanes as usize;
         let mut seats = row_for(count)?;
-        let mut returned = row_for(count * count)?;
-        returned.resize_with(count * count, Returned::new);
+        let emptying = if T::plain().0 { 0 } else { count };
+        let mut hazards = row_for(emptying * emptying)?;
+        hazards.resize_with(emptying * emptying, Hazard::new);
+        let mut apart = row_for(emptying)?;
+        apart.resize_with(emptying, Apart::new);
         let rows = RowBlock::for_rows(rows_of(&checked)).ok_or(OpenError::Memory)?;
-        let proved = if T::plain().0 {
-            let mut opened = Opened::open(checked, &rows)?;
-            let lanes = opened.lanes();
-            seats.extend(lanes.map(|lane| Seat::new(lane.number(), Either::placed(lane))));
-            Either::placed(opened)
-        } else {
-            let mut opened = Opened::open(checked, &rows)?;
-            let lanes = opened.lanes();
-            seats.extend(lanes.map(|lane| Seat::new(lane.number(), Either::hooked(lane))));
-            Either::hooked(opened)
-        };
+        let mut proved = Opened::open(checked, &rows)?;
+        seats.extend(proved.lanes().map(|lane| Seat::new(lane.number(), lane)));
         Ok(Segment {
             proved: ManuallyDrop::new(proved),
             seats: ManuallyDrop::new(seats),
-            returned: ManuallyDrop::new(returned),
+            hazards: ManuallyDrop::new(hazards),
+            apart: ManuallyDrop::new(apart),
             told,
             rows: ManuallyDrop::new(rows),
             room: AtomicPtr::new(ptr::null_mut()),
         })
     }
 
-    /// The ways by which lanes return blocks to one.
+    /// Those of this lane's places that other lanes give back. (Of a plain type none.)
     #[inline]
-    pub(super) fn returned_to(&self, number: u32) -> &[Returned<T>] {
-        let (count, number) = (self.seats.len(), number as usize);
-        &self.returned[number * count..(number + 1) * count]
+    pub(super) fn hazards_of(&self, home: u32) -> &[Hazard<T>] {
+        let (count, home) = (self.apart.len(), home as usize);
+        &self.hazards[home * count..(home + 1) * count]
+    }
+
+    /// That of a lane's places which another one gives back, of a type that isn't plain.
+    #[inline(always)]
+    pub(super) fn hazard(&self, home: u32, other: u32) -> &Hazard<T> {
+        let index = home as usize * self.apart.len() + other as usize;
+        debug_assert!(!T::plain().0 && other < self.lanes() && index < self.hazards.len());
+        // SAFETY: both are lanes of the segment.
+        unsafe { self.hazards.get_unchecked(index) }
+    }
+
+    /// Where an object is that a call of this lane took out of its place.
+    pub(super) fn apart(&self, number: u32) -> *mut T {
+        self.apart[number as usize].pointer()
     }
 
     /// It stands where it stays, as a segment of this pool. No other thread has it yet.
@@ -114,24 +126,19 @@ impl<T: Clear> Segment<T> {
     }
 
     #[inline(always)]
-    pub(super) fn proved(&self) -> &ProvedPool<T> {
+    pub(super) fn proved(&self) -> &Opened<T> {
         &self.proved
     }
 
     fn shape(&self) -> keybits::Shape {
-        of_either!(T, self.proved, |opened| opened.pool.shape())
+        self.proved.pool.shape()
     }
 
     /// The life word of the place that stands there, as a load tells.
     #[inline(always)]
     fn life(&self, start: usize) -> u64 {
-        let word = life_at(start);
-        of_either!(T, self.proved, |opened| opened
-            .pool
-            .grid
-            .table
-            .shared
-            .peek(word))
+        let table = &self.proved.pool.grid.table;
+        table.shared.peek(life_at(start))
     }
 
     #[inline]
@@ -192,17 +199,34 @@ impl<T: Clear> Segment<T> {
     /// Whether the segment has no object of this key, as loads tell.
     #[inline(always)]
     pub(super) fn lacks(&self, key: Key) -> bool {
-        !matches!(self.sight(key), Sight::There(_))
+        !matches!(self.sight(key), Sight::There)
+    }
+
+    /// Whether the segment may have an object of this key, which is to be cleared.
+    #[inline(always)]
+    pub(super) fn has_to_clear(&self, key: Key) -> bool {
+        matches!(self.sight_to_clear(key), Sight::There)
     }
 
     /// What loads tell of a key.
     #[inline(always)]
     pub(super) fn sight(&self, key: Key) -> Sight {
+        self.sight_behind(key, |_| ())
+    }
+
+    /// The same, in front of a clear.
+    #[inline(always)]
+    pub(super) fn sight_to_clear(&self, key: Key) -> Sight {
+        self.sight_behind(key, |start| self.proved.fetch_ahead(start, !T::plain().0))
+    }
+
+    #[inline(always)]
+    fn sight_behind(&self, key: Key, begin: impl FnOnce(u32)) -> Sight {
         let number = u64::from(key);
-        let found = of_either!(T, self.proved, |opened| opened.pool.find(number));
-        let Some(spot) = found else {
+        let Some(spot) = self.proved.pool.find(number) else {
             return Sight::Foreign;
         };
+        begin(spot.start);
         let life = self.life(spot.start as usize);
         // (Where tests watch the steps, those of a miss are made.)
         let is_gone = !cfg!(pardz_trace) && (life >> 32) as u32 > generation_of(number);
@@ -210,17 +234,7 @@ impl<T: Clear> Segment<T> {
             self.look_at(spot.place);
             return Sight::Gone;
         }
-        Sight::There(spot.start)
-    }
-
-    /// The pointer to an object that a clear takes out of the place that stands there is fetched ahead, while the call waits for the words
-    /// in front of it. (A plain object stays in its place, which the clear doesn't look at.)
-    #[inline(always)]
-    pub(super) fn fetch_ahead(&self, start: u32) {
-        if !T::plain().0 {
-            let objects = self.proved.as_hooked().pool.grid.objects.ptr;
-            shim::fetch_ahead(objects.wrapping_add(start as usize));
-        }
+        Sight::There
     }
 
     /// A generation grows alone, so a key that is gone stays it. This load stands among the steps, and so does what is answered then. (It
@@ -228,12 +242,9 @@ impl<T: Clear> Segment<T> {
     #[cold]
     #[inline(never)]
     fn look_at(&self, place: u32) {
-        of_either!(T, self.proved, |opened| {
-            let grid = &opened.pool.grid;
-            grid.table
-                .shared
-                .look(life_at(grid.spot(place).start as usize));
-        });
+        let grid = &self.proved.pool.grid;
+        let start = grid.spot(place).start as usize;
+        grid.table.shared.look(life_at(start));
     }
 
     /// What the places are now.
@@ -266,34 +277,48 @@ impl<T: Clear> Segment<T> {
         ManuallyDrop::new(self).end()
     }
 
+    /// The places of fillings that were set aside are back for the close: how many.
+    fn end_asides(&mut self) -> u32 {
+        let mut count = 0;
+        for seat in self.seats.iter() {
+            for hazard in self.hazards_of(seat.number).iter().chain([&seat.hazard]) {
+                // SAFETY: the pool and its lanes are ours.
+                let Some(key) = (unsafe { hazard.take_aside(|_| true) }) else {
+                    continue;
+                };
+                let spot = self.proved.pool.find(key.into());
+                let start = spot.map_or(0, |spot| spot.start as usize);
+                // SAFETY: as above; the filling is spent.
+                let (lane, cell) = unsafe { (&mut *seat.lane.get(), cell()) };
+                lane.state.objects.bring_back(start, cell);
+                count += 1;
+            }
+        }
+        count
+    }
+
     /// What a close does, once.
     fn end(&mut self) -> Census {
         let untold = self.untold();
+        let asides = if T::plain().0 { 0 } else { self.end_asides() };
         // SAFETY: taken once: by `close`, which forgets the pool, or by its drop.
-        let (proved, mut seats, returned, rows) = unsafe {
+        let (proved, mut seats, rest) = unsafe {
+            let hazards = ManuallyDrop::take(&mut self.hazards);
+            let apart = ManuallyDrop::take(&mut self.apart);
             (
                 ManuallyDrop::take(&mut self.proved),
                 ManuallyDrop::take(&mut self.seats),
-                ManuallyDrop::take(&mut self.returned),
-                ManuallyDrop::take(&mut self.rows),
+                (hazards, apart, ManuallyDrop::take(&mut self.rows)),
             )
         };
         // SAFETY: taken once, as above.
         let lanes = seats.iter_mut().map(|seat| unsafe { seat.take_lane() });
-        let census = if T::plain().0 {
-            proved.into_placed().close(lanes.map(Either::into_placed))
-        } else {
-            proved.into_hooked().close(lanes.map(Either::into_hooked))
-        };
-        drop(rows);
-        if object::FINDS_LOST {
-            seats.iter_mut().for_each(Seat::find_blocks);
-            returned.iter().for_each(|way| way.take().find());
-        }
-        // (With the chunks, and the objects in their blocks.)
-        drop(seats);
+        let census = proved.close(lanes);
+        drop((rest, seats));
         let mut census = Census::from(census);
         census.unopened -= untold;
+        census.filling -= asides;
+        census.free += asides;
         census
     }
 }

@@ -1,10 +1,11 @@
 //! Calls of a lane that threads share, or that its thread has left: under its lock. None runs code of others meanwhile: what was taken out
 //! of a place comes back, and is emptied behind the lock; or within it, where this crate's code and std's alone does that.
+use super::hazard::Used;
 use super::seat::{Joint, Post};
 use super::segment::Segment;
 use super::threads;
 use super::token::{Begun, By, Far, Held, OfThread};
-use super::turn::{with_new, AtHand, Brought, Short, Turn};
+use super::turn::Turn;
 use crate::clear::Clear;
 use crate::errors::{CreateError, GetError};
 use crate::key::Key;
@@ -12,29 +13,29 @@ use crate::object::{Block, Chain};
 use crate::sync::thread_local;
 use std::any::Any;
 use std::cell::{Cell, RefCell};
-use std::mem::{self, ManuallyDrop};
+use std::mem;
 use std::panic::{self, AssertUnwindSafe};
 use std::{ptr, thread};
 
 /// The lane isn't shared any more: another one is to be chosen.
 pub(super) struct NotShared;
 
-/// An object that a call under the lock took out of its place. The lane counts it until it is put away, so that the lane stays shared,
-/// and the pool's memory stays.
-pub(super) struct Taken<T: Clear> {
-    block: Block<T>,
+/// An object that a call under the lock took out of use. The lane counts it until it is empty, so that the lane stays shared, and the pool's
+/// memory stays.
+pub(super) struct Taken<'s, T: Clear> {
+    used: Used<'s, T>,
 }
 
 /// What the last call took out, which is a user of the lane from now on.
 #[inline(always)]
-fn taken<T: Clear>(turn: &mut Turn<'_, T>, joint: &mut Joint) -> Option<Taken<T>> {
-    let block = turn.taken()?;
+fn taken<'s, T: Clear>(turn: &mut Turn<'s, T>, joint: &mut Joint) -> Option<Taken<'s, T>> {
+    let used = turn.taken()?;
     joint.come();
-    Some(Taken { block })
+    Some(Taken { used })
 }
 
 /// A reference; or what a get took out that gave none.
-type Got<'s, T, W> = Result<Held<'s, T, W>, Option<Taken<T>>>;
+type Got<'s, T, W> = Result<Held<'s, T, W>, Option<Taken<'s, T>>>;
 
 /// A get under the lock.
 #[inline(always)]
@@ -47,105 +48,83 @@ fn get<'s, T: Clear, W: By<T>>(
     Ok(held.ok_or_else(|| taken(turn, joint)))
 }
 
-/// A create of a lane with a place at hand.
+/// What began, and a spare object where its place has none.
 #[inline(always)]
-fn create_short<'s, T: Clear + Default, W: By<T>>(
+fn with_spare<'s, T: Clear, W>(
     turn: &mut Turn<'s, T>,
-    joint: &mut Joint,
-    brought: Brought<T>,
-    come: impl Fn(&mut Joint),
-) -> Result<Begun<'s, T, W>, Short<T>> {
-    let begun = turn.create(brought, AtHand::Any)?;
-    come(joint);
-    Ok(begun)
+    begun: Begun<'s, T, W>,
+) -> (Begun<'s, T, W>, Option<Block<T>>) {
+    let is_vacant = begun.is_vacant();
+    (begun, is_vacant.then(|| turn.spare()).flatten())
 }
 
 impl<'s, T: Clear> Post<'s, T> {
-    /// A create of this segment, with a block of the lane if the caller has one.
+    /// A create of this segment.
     #[inline]
     pub(super) fn shared_create<W: By<T>>(
         self,
-        carried: Brought<T>,
         come: impl Fn(&mut Joint),
     ) -> Result<Result<Begun<'s, T, W>, CreateError>, NotShared>
     where
         T: Default,
     {
-        let carried = carried.map(Some);
-        let begun = self.shared::<W, _>(|turn, joint| match carried.or_else(|| turn.bring()) {
-            Some(brought) => Ok(create_short(turn, joint, brought, &come)),
-            None => Err(turn.wants()),
+        let begun = self.shared::<W, _>(|turn, joint| {
+            let begun = turn.create_at_hand()?;
+            come(joint);
+            Some(with_spare(turn, begun))
         });
         match begun.ok_or(NotShared)? {
-            Ok(begun) => self.shared_create_end(begun, come),
-            Err(wanted) => self.shared_create_new(wanted, come).map(Begun::by_parts),
+            Some((begun, spare)) if begun.is_vacant() => Ok(Ok(self.shared_fill(begun, spare))),
+            Some((begun, _)) => Ok(Ok(begun.shared())),
+            None => self.shared_create_apart(come).map(Begun::by_parts),
         }
     }
 
-    /// What a create of a place at hand gave; or a create apart.
-    #[inline(always)]
-    fn shared_create_end<W: By<T>>(
-        self,
-        begun: Result<Begun<'s, T, W>, Short<T>>,
-        come: impl Fn(&mut Joint),
-    ) -> Result<Result<Begun<'s, T, W>, CreateError>, NotShared>
-    where
-        T: Default,
-    {
-        match begun {
-            Ok(begun) => Ok(Ok(begun.shared())),
-            Err(Short::Failed(error)) => Ok(Err(error)),
-            Err(Short::NoPlace(brought)) => {
-                self.shared_create_apart(brought, come).map(Begun::by_parts)
-            }
-        }
-    }
-
-    /// A create with a new object, which is made without the lock.
-    #[cold]
-    #[inline(never)]
-    fn shared_create_new<W: By<T>>(
-        self,
-        wanted: Option<u32>,
-        come: impl Fn(&mut Joint),
-    ) -> Result<Result<Begun<'s, T, W>, CreateError>, NotShared>
-    where
-        T: Default,
-    {
-        let begun = with_new(wanted, |object, chunk| {
-            let begun = self.shared::<W, _>(|turn, joint| {
-                let block = turn.put(object, chunk)?;
-                Ok(create_short(turn, joint, Some(block), &come))
-            });
-            match begun {
-                Some(Ok(begun)) => Ok(Ok(begun)),
-                Some(Err(crowded)) => Err(crowded),
-                None => Ok(Err(NotShared)),
-            }
-        });
-        match begun {
-            Ok(begun) => self.shared_create_end(begun?, come),
-            Err(refused) => Ok(Err(refused.into())),
-        }
-    }
-
-    /// A create of a lane without a place on its own list.
+    /// A create of a lane without a place at hand.
     #[cold]
     #[inline(never)]
     fn shared_create_apart<W: By<T>>(
         self,
-        brought: Brought<T>,
         come: impl Fn(&mut Joint),
     ) -> Result<Result<Begun<'s, T, W>, CreateError>, NotShared>
     where
         T: Default,
     {
         let created = self.shared::<W, _>(|turn, joint| {
-            let begun = turn.create_apart(brought)?;
+            let begun = turn.create_apart()?;
             come(joint);
-            Ok(begun.shared())
+            Ok(with_spare(turn, begun))
         });
-        created.ok_or(NotShared)
+        Ok(created.ok_or(NotShared)?.map(|(begun, spare)| {
+            if begun.is_vacant() {
+                self.shared_fill(begun, spare)
+            } else {
+                begun.shared()
+            }
+        }))
+    }
+
+    /// A filling of the lane gets an object, as its place has none: without the lock.
+    #[inline(always)]
+    fn shared_fill<W: By<T>>(
+        self,
+        begun: Begun<'s, T, W>,
+        spare: Option<Block<T>>,
+    ) -> Begun<'s, T, W>
+    where
+        T: Default,
+    {
+        let filled = begun.filled(spare, |begun| {
+            // SAFETY: the lane has a filling, so that it is shared, or lent; and the filling is of this lane.
+            unsafe {
+                self.locked(|turn, joint| {
+                    turn.set_vacant_aside(begun);
+                    // (The pool is borrowed, and so keeps its memory.)
+                    W::goes(joint);
+                });
+            }
+        });
+        filled.shared()
     }
 
     /// A get of this segment.
@@ -188,15 +167,15 @@ impl<'s, T: Clear> Post<'s, T> {
     }
 
     /// The same, where nobody has the lock now: it doesn't wait. What comes back is to be emptied by the caller.
-    pub(super) fn try_shared_clear(self, key: Key) -> Option<(bool, Option<Block<T>>)> {
+    pub(super) fn try_shared_clear(self, key: Key) -> Option<(bool, Option<Used<'s, T>>)> {
         self.try_shared(|turn, _| (turn.clear(key), turn.taken()))
     }
 
     /// Empties what a call took out, without the lock.
     #[inline]
-    fn finish(self, taken: Option<Taken<T>>) {
-        if let Some(Taken { block }) = taken {
-            User(self).empty(block);
+    fn finish(self, taken: Option<Taken<'_, T>>) {
+        if let Some(Taken { used }) = taken {
+            User(self).empty(used);
         }
     }
 }
@@ -208,24 +187,6 @@ impl<T: Clear> Drop for User<'_, T> {
     fn drop(&mut self) {
         let post = self.0;
         if post.joint(Joint::leave) {
-            // SAFETY: the lane had a share of the pool's memory until now.
-            unsafe { super::share::let_go(post) };
-        }
-    }
-}
-
-impl<T: Clear> User<'_, T> {
-    /// Its last call: it puts a block away.
-    fn put_away_last(self, block: Block<T>) {
-        let User(post) = *ManuallyDrop::new(self);
-        // SAFETY: the lane has a user, so it is shared, or its thread has left it.
-        let is_last = unsafe {
-            post.locked(|turn, joint| {
-                turn.put_away(block);
-                joint.leave()
-            })
-        };
-        if is_last {
             // SAFETY: the lane had a share of the pool's memory until now.
             unsafe { super::share::let_go(post) };
         }
@@ -284,8 +245,8 @@ impl<T: Clear> Post<'_, T> {
                 (taken, is_last)
             })
         };
-        if let Some(block) = taken {
-            self.far_empty(block);
+        if let Some(used) = taken {
+            self.far_empty(used);
         } else if is_last {
             // SAFETY: the lane had a share of the pool's memory until now.
             unsafe { super::share::let_go(self) };
@@ -295,8 +256,8 @@ impl<T: Clear> Post<'_, T> {
     /// Empties what the handle let go of, which ends then.
     #[cold]
     #[inline(never)]
-    fn far_empty(self, block: Block<T>) {
-        User(self).empty(block);
+    fn far_empty(self, used: Used<'_, T>) {
+        User(self).empty(used);
     }
 
     /// Publishes what the handle filled, which ends.
@@ -385,11 +346,15 @@ fn outer_waiting<T: Clear>(segment: &Segment<T>) -> Option<&RefCell<Chain<T>>> {
 }
 
 impl<T: Clear> User<'_, T> {
-    /// Empties an object that the lane took out, and those that wait then. Where one of its segment is being emptied further out, it is
-    /// left to that one.
-    fn empty(self, block: Block<T>) {
+    /// Empties an object that the lane took out, and those that wait then. Where one of its segment is being emptied further out, it waits for
+    /// that one.
+    fn empty(self, used: Used<'_, T>) {
         if let Some(waiting) = outer_waiting(self.0.segment()) {
-            return waiting.borrow_mut().push(block);
+            match used.wait() {
+                Ok(block) => waiting.borrow_mut().push(block),
+                Err(used) => used.empty_here(),
+            }
+            return;
         }
         let waiting = RefCell::new(Chain::new());
         let frame = Frame {
@@ -398,39 +363,28 @@ impl<T: Clear> User<'_, T> {
             waiting: ptr::from_ref(&waiting).cast(),
         };
         let unwinding = thread::panicking();
-        let (mut panicked, mut emptied) = (None, None);
-        let mut next = Some(block);
+        let (number, mut panicked, mut next) = (self.0.number(), None, Some(used));
         // SAFETY: it is dropped in front of the frame.
         let framed = unsafe { Framed::new(&frame) };
-        while let Some(block) = next {
-            if let Some(block) = emptied.take() {
+        while let Some(used) = next {
+            // (One of another lane is dropped, and so in front of the lock.)
+            let emptied = || used.empty().filter(|block| block.home() == number);
+            match panic::catch_unwind(AssertUnwindSafe(emptied)) {
                 // SAFETY: the lane has a user, so it is shared, or its thread has left it.
-                unsafe { self.0.locked(|turn, _| turn.put_away(block)) };
-            }
-            match emptied_block(block) {
-                Ok(block) => emptied = Some(block),
+                Ok(Some(block)) => unsafe { self.0.locked(|turn, _| turn.put_away(block)) },
+                Ok(None) => (),
                 Err(payload) => first(&mut panicked, payload),
             }
-            next = waiting.borrow_mut().pop();
+            next = waiting.borrow_mut().pop().map(Used::Waited);
         }
         drop(framed);
-        if let Some(block) = emptied {
-            self.put_away_last(block);
-        }
+        drop(self);
         match panicked {
             Some(payload) if !unwinding => panic::resume_unwind(payload),
             // A panic while the thread unwinds would end the process; so might the drop of its payload.
             panicked => mem::forget(panicked),
         }
     }
-}
-
-/// Empties an object; or answers the panic, which dropped it.
-fn emptied_block<T: Clear>(mut block: Block<T>) -> thread::Result<Block<T>> {
-    panic::catch_unwind(AssertUnwindSafe(move || {
-        block.clear();
-        block
-    }))
 }
 
 /// The first panic is handed on; the drop of another one's payload might panic in turn.

@@ -8,7 +8,6 @@ use super::threads;
 use super::token::{Begun, By};
 use crate::clear::Clear;
 use crate::errors::{CreateError, GetError};
-use crate::object::Block;
 
 impl<T: Clear> Room<T> {
     /// A call of a segment by the shared lane of the thread's choice; or by another one, where the segment hasn't that, or it isn't shared
@@ -43,12 +42,10 @@ impl<T: Clear> Room<T> {
         is_asked
     }
 
-    /// A create by the shared lane that the thread called last, where that had a place last, with a block of that lane if the thread has
-    /// one. None where the lane has no place now.
+    /// A create by the shared lane that the thread called last, where that had a place last. None where the lane has no place now.
     #[inline]
     pub(super) fn create_by_last<W: By<T>>(
         &self,
-        block: impl FnOnce(Post<'_, T>) -> Option<Block<T>>,
         come: impl Fn(&mut Joint),
     ) -> Option<Begun<'_, T, W>>
     where
@@ -56,7 +53,7 @@ impl<T: Clear> Room<T> {
     {
         let number = threads::last_shared(self.id())?;
         let post = self.last_post(number)?;
-        post.shared_create(block(post), come).ok()?.ok()
+        post.shared_create(come).ok()?.ok()
     }
 
     /// A create by any of the shared lanes, in any segment.
@@ -95,7 +92,7 @@ impl<T: Clear> Room<T> {
     {
         let mut looked = 0;
         loop {
-            match post.shared_create(None, &come) {
+            match post.shared_create(&come) {
                 Ok(created) => return created,
                 Err(NotShared) if self.waits_for_ask(post.number(), &mut looked) => (),
                 Err(NotShared) => return Err(CreateError::Full),

@@ -1,10 +1,12 @@
 //! What the proved pool's fillings and references are outside of its calls. Each is made by one call, and spent by one other: it moves.
-use super::seat::Post;
+use super::seat::{Joint, Post};
 use super::segment::Segment;
 use crate::clear::Clear;
 use crate::key::Key;
+use crate::object::{Block, Placed};
 use std::mem::ManuallyDrop;
 use std::ops::{Deref, DerefMut};
+use std::panic;
 use std::ptr::NonNull;
 
 /// By which way the calls for a filling or a reference are made.
@@ -14,6 +16,9 @@ pub(crate) trait By<T: Clear>: Copy {
 
     /// For what a call gives of the segment that was asked.
     fn of(segment: &Segment<T>) -> Self;
+
+    /// What came to a shared lane goes again, and was no handle yet.
+    fn goes(_: &mut Joint) {}
 }
 
 /// By a lane in hand, which is borrowed: without a lock.
@@ -74,6 +79,10 @@ impl<T: Clear> By<T> for OfThread<T> {
 impl<T: Clear> By<T> for Far {
     const STAYS: bool = false;
 
+    fn goes(joint: &mut Joint) {
+        joint.leave();
+    }
+
     #[inline(always)]
     fn of(_: &Segment<T>) -> Far {
         Far
@@ -85,6 +94,9 @@ const SHARED: u64 = 1 << 63;
 
 /// In `start`: of a lane that is lent to an owned handle, whoever has that keeps the pool open meanwhile.
 const KEPT: u64 = 1 << 62;
+
+/// In `start`: the place of a filling has no object yet.
+const VACANT: u64 = 1 << 61;
 
 /// A proved reference, taken apart: its key, where the key's place stands in the lane's pool, and where its object does.
 pub(crate) struct Held<'s, T: Clear, W> {
@@ -138,7 +150,7 @@ impl<'s, T: Clear, W> Held<'s, T, W> {
 
     #[inline(always)]
     pub(crate) fn object(&self) -> &T {
-        // SAFETY: while the lane has the reference nobody writes the object, or drops or reuses its block.
+        // SAFETY: while the lane has the reference nobody writes the object, or drops it.
         unsafe { self.object.as_ref() }
     }
 
@@ -247,6 +259,51 @@ impl<'s, T: Clear, W> Begun<'s, T, W> {
         }
     }
 
+    /// One in a place that has no object yet.
+    #[inline(always)]
+    pub(super) fn vacant(
+        post: Post<'s, T>,
+        (key, start): (Key, u32),
+        place: NonNull<Placed<T>>,
+        way: W,
+    ) -> Self {
+        Begun {
+            post,
+            key,
+            start: u64::from(start) | VACANT,
+            object: place.cast(),
+            way,
+        }
+    }
+
+    #[inline(always)]
+    pub(super) fn is_vacant(&self) -> bool {
+        !T::plain().0 && self.start & VACANT != 0
+    }
+
+    /// A vacant one has the spare object from now on, or a new one. Where the making of that panics, the filling is set aside.
+    #[inline(always)]
+    pub(super) fn filled(mut self, spare: Option<Block<T>>, set_aside: impl FnOnce(Self)) -> Self
+    where
+        T: Default,
+    {
+        let made = match spare {
+            Some(block) => Ok(block.into_object()),
+            None => panic::catch_unwind(T::default),
+        };
+        let object = match made {
+            Ok(object) => object,
+            Err(payload) => {
+                set_aside(self);
+                panic::resume_unwind(payload)
+            }
+        };
+        self.start &= !VACANT;
+        // SAFETY: its place stands there, which has no object.
+        self.object = unsafe { Placed::put(self.object.cast(), object) };
+        self
+    }
+
     /// # Safety
     ///
     /// They are the words of one that `into_words` spent.
@@ -316,10 +373,10 @@ impl<'s, T: Clear, W> Begun<'s, T, W> {
         self.start & KEPT != 0
     }
 
-    /// What the proved pool knows of it, and its object.
+    /// What the proved pool knows of it.
     #[inline(always)]
-    pub(super) fn into_proved(self) -> (u64, u32, NonNull<T>) {
-        (self.key.into(), self.start as u32, self.object)
+    pub(super) fn into_proved(self) -> (u64, u32) {
+        (self.key.into(), self.start as u32)
     }
 
     /// As words, for calls that have them in registers.

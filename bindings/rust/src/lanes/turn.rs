@@ -1,13 +1,14 @@
-//! The calls of the proved pool. None runs code of others: what that is to empty comes back as a block.
+//! The calls of the proved pool. None runs code of others: what that is to empty comes back.
 use super::emptying::Emptying;
-use super::proved::{self, cell, of_either, Parts, ProvedLane, ProvedPool};
+use super::hazard::{Hazard, InPlace, Used};
+use super::proved::{self, cell, Opened, Parts, ProvedLane};
 use super::seat::{Post, Stands, Store};
 use super::token::{Begun, By, Held};
 use crate::clear::Clear;
-use crate::erased::shardpool::{CreateFault, MOST_REFERENCES};
-use crate::errors::{CreateError, GetError, MemoryRefused};
+use crate::erased::shardpool::{Emptier, MOST_REFERENCES};
+use crate::errors::{CreateError, GetError};
 use crate::key::Key;
-use crate::object::{Block, Chain, Chunk, Crowded, Placed, Source};
+use crate::object::{Block, Placed};
 use crate::sync::{self, Ordering};
 use std::marker::PhantomData;
 use std::mem;
@@ -35,24 +36,19 @@ impl Drop for Call {
     }
 }
 
-/// A block for a filling, with an empty object. Those of a plain type have none.
-pub(super) type Brought<T> = Option<Block<T>>;
-
 /// Which places a create may take.
 #[derive(Clone, Copy)]
-pub(super) enum AtHand {
+pub(super) enum From {
     /// Those of the lane's own list.
-    Listed,
-    /// These, and those that it took back.
-    Any,
+    List,
+    /// These, and those that other lanes returned and it took back.
+    Hand,
+    /// These, and those of further pages.
+    Pages,
 }
 
-/// What a create without memory of its own needs.
-pub(super) enum Short<T> {
-    /// The lane has no place at hand: what was brought comes back.
-    NoPlace(Brought<T>),
-    Failed(CreateError),
-}
+/// In `Store::taken`: it is apart.
+const APART: NonNull<()> = NonNull::dangling();
 
 /// A lane that is had for calls: this thread alone uses it meanwhile.
 pub(super) struct Turn<'s, T: Clear, P: Stands<'s, T> = Post<'s, T>> {
@@ -60,54 +56,17 @@ pub(super) struct Turn<'s, T: Clear, P: Stands<'s, T> = Post<'s, T>> {
     of: PhantomData<(&'s (), *const T)>,
 }
 
-/// Puts a new object into a block: the memory for it is asked for in front, if it is wanted, and between two tries, where the lane isn't had
-/// for calls.
-pub(super) fn with_new<T: Default, R>(
-    wanted: Option<u32>,
-    mut put: impl FnMut(T, Option<Chunk<T>>) -> Result<R, Crowded<T>>,
-) -> Result<R, MemoryRefused> {
-    let mut chunk = wanted.map(Chunk::new).transpose()?;
-    let mut object = T::default();
-    loop {
-        let Crowded { object: back, room } = match put(object, chunk) {
-            Ok(begun) => return Ok(begun),
-            Err(crowded) => crowded,
-        };
-        (object, chunk) = (back, Some(Chunk::new(room)?));
-    }
-}
-
-/// One call of the proved pool, by the lane of a turn: of the one with such objects as the type has.
+/// One call of the proved pool, by the lane of a turn.
 macro_rules! call {
-    ($type:ident, $turn:expr, |$pool:ident, $lane:ident| $call:expr) => {{
-        let (pool, lane, call) = $turn.proved();
-        let answer = if $type::plain().0 {
-            let ($pool, $lane) = (&pool.as_placed().pool, lane.as_placed_mut());
-            $call
-        } else {
-            let ($pool, $lane) = (&pool.as_hooked().pool, lane.as_hooked_mut());
-            $call
-        };
+    ($turn:expr, |$pool:ident, $lane:ident| $call:expr) => {{
+        let (opened, $lane, call) = $turn.proved();
+        let $pool = &opened.pool;
+        let answer = $call;
         call.end();
         answer
     }};
 }
-
-/// A block of another lane goes home to it. (Apart, and without the turn, which stays in registers.)
-#[inline(never)]
-fn bring_home<T: Clear>(post: Post<'_, T>, block: Block<T>) {
-    let home = post.segment().post(block.home());
-    home.come_home(post.number(), block);
-}
-
-/// A block that another lane returned, where the lane has no other. The others that it returned are spare then. (Apart, likewise.)
-#[inline(never)]
-fn returned<T: Clear>(post: Post<'_, T>, spare: &mut Chain<T>) -> Option<Block<T>> {
-    let mut chain = post.take_returned()?;
-    let block = chain.pop();
-    mem::swap(spare, &mut chain);
-    block
-}
+pub(super) use call;
 
 impl<'s, T: Clear, P: Stands<'s, T>> Turn<'s, T, P> {
     /// # Safety
@@ -129,7 +88,7 @@ impl<'s, T: Clear, P: Stands<'s, T>> Turn<'s, T, P> {
 
     /// The proved pool and its lane, for one call, which ends before anything else is done with this lane.
     #[inline(always)]
-    fn proved(&mut self) -> (&ProvedPool<T>, &mut ProvedLane<T>, Call) {
+    pub(super) fn proved(&mut self) -> (&Opened<T>, &mut ProvedLane<T>, Call) {
         sync::writes(self.post().seat().lane.get(), "a lane");
         // SAFETY: this thread alone uses the lane, by this turn.
         let lane = unsafe { &mut *self.post().seat().lane.get() };
@@ -140,7 +99,7 @@ impl<'s, T: Clear, P: Stands<'s, T>> Turn<'s, T, P> {
     ///
     /// # Safety
     ///
-    /// It is used within the one call of this turn that follows, which is for this key. (It turns to the lane's blocks alone, of which the
+    /// It is used within the one call of this turn that follows, which is for this key. (It turns to the lane's store alone, of which the
     /// call doesn't know, and to a place that gets no object any more.)
     #[inline(always)]
     unsafe fn emptier(&mut self, key: Key) -> Emptying<'s, T> {
@@ -156,17 +115,17 @@ impl<'s, T: Clear, P: Stands<'s, T>> Turn<'s, T, P> {
         unsafe { &mut *self.post().seat().lane.get() }
     }
 
-    /// The lane's blocks.
+    /// What the lane has of objects.
     #[inline(always)]
     pub(super) fn store(&mut self) -> &mut Store<T> {
-        sync::writes(self.post().seat().store.get(), "a lane's blocks");
+        sync::writes(self.post().seat().store.get(), "a lane's store");
         // SAFETY: this thread alone uses the lane, by this turn.
         unsafe { &mut *self.post().seat().store.get() }
     }
 
     #[inline(always)]
     pub(super) fn references(&mut self) -> u32 {
-        of_either!(T, self.lane(), |lane| lane.refs())
+        self.lane().refs()
     }
 
     /// How many fillings and references the lane has.
@@ -175,188 +134,224 @@ impl<'s, T: Clear, P: Stands<'s, T>> Turn<'s, T, P> {
         (fillings, self.references())
     }
 
-    /// A block whose object is empty goes to the spare ones of the lane that uses it.
-    #[inline]
+    /// An empty object of the lane, for a place that has none.
     pub(super) fn put_away(&mut self, block: Block<T>) {
-        if block.home() == self.post().number() {
-            self.store().spare.push(block);
-        } else {
-            bring_home(self.post(), block);
-        }
+        debug_assert_eq!(block.home(), self.post().number());
+        self.store().spare.push(block);
     }
 
-    /// A block that was used before.
-    #[inline(always)]
-    fn spare(&mut self) -> Option<Block<T>> {
-        let post = self.post();
-        let spare = &mut self.store().spare;
-        match spare.pop() {
-            Some(block) => Some(block),
-            None => returned(post, spare),
-        }
-    }
-
-    /// What a create is to bring. None where a block is to be made.
-    #[inline(always)]
-    pub(super) fn bring(&mut self) -> Option<Brought<T>> {
-        if T::plain().0 {
-            return Some(None);
-        }
-        self.spare().map(Some)
-    }
-
-    /// What a create doesn't use.
+    /// Such an object, if there is one.
     #[inline]
-    pub(super) fn take_back(&mut self, brought: Brought<T>) {
-        if let Some(block) = brought {
-            self.put_away(block);
-        }
+    pub(super) fn spare(&mut self) -> Option<Block<T>> {
+        self.store().spare.pop()
     }
 
-    /// What a filling begins with that begins now.
+    /// What the last call took out of use, for code of others to empty it.
     #[inline(always)]
-    fn source(&mut self, brought: Brought<T>) -> Source<T> {
-        if let Some(block) = brought {
-            return Source::Block(block);
+    pub(super) fn taken(&mut self) -> Option<Used<'s, T>> {
+        if !self.has_taken()? {
+            // SAFETY: it took one out, which isn't apart.
+            return Some(Used::InPlace(unsafe { self.taken_in_place() }));
         }
-        let warm = self.store().warm.take();
-        warm.map_or(Source::Own, Source::Warm)
+        let (post, store) = (self.post(), self.store());
+        store.taken = None;
+        let home = store.home;
+        // SAFETY: `take_apart` put an object there.
+        let object = unsafe { post.segment().apart(post.number()).read() };
+        Some(Used::Apart(home, object))
     }
 
-    /// How much room a chunk is to have that is brought along with a new object.
-    pub(super) fn wants(&mut self) -> Option<u32> {
-        self.store().chunks.wants()
-    }
-
-    /// A block with a new object.
-    pub(super) fn put(
-        &mut self,
-        object: T,
-        chunk: Option<Chunk<T>>,
-    ) -> Result<Block<T>, Crowded<T>> {
-        let home = self.post().number();
-        self.store().chunks.put(home, object, chunk)
-    }
-
-    /// What the last call took out of a place, for code of others to empty it.
+    /// The same of one that isn't apart.
+    ///
+    /// # Safety
+    ///
+    /// Such a one was taken out.
     #[inline(always)]
-    pub(super) fn taken(&mut self) -> Option<Block<T>> {
+    pub(super) unsafe fn taken_in_place(&mut self) -> InPlace<'s, T> {
+        let store = self.store();
+        // SAFETY: the caller's; a hazard stands as long as its segment; and `take_out` has it, once.
+        unsafe { InPlace::of(store.taken.take().unwrap_unchecked(), store.home) }
+    }
+
+    /// Whether what it took out is apart. None where it took nothing out.
+    #[inline(always)]
+    pub(super) fn has_taken(&mut self) -> Option<bool> {
         if T::plain().0 {
             return None;
         }
-        self.store().taken.pop()
+        let taken = self.store().taken?;
+        Some(taken == APART.cast())
     }
 
-    /// Whether it took any out.
+    /// Whether objects wait to be emptied.
     #[inline(always)]
-    pub(super) fn has_taken(&mut self) -> bool {
-        !T::plain().0 && !self.store().taken.is_empty()
+    pub(super) fn has_waiting(&mut self) -> bool {
+        !self.store().used.is_empty()
     }
 
-    /// A create of a lane with a place at hand.
+    /// The call under way took an object out of use that the hazard has, of the place of this lane.
     #[inline(always)]
-    pub(super) fn create<W: By<T>>(
-        &mut self,
-        brought: Brought<T>,
-        from: AtHand,
-    ) -> Result<Begun<'s, T, W>, Short<T>>
+    pub(super) fn take_out(&mut self, home: u32, hazard: &Hazard<T>) {
+        let store = self.store();
+        debug_assert!(store.taken.is_none());
+        (store.taken, store.home) = (Some(NonNull::from(hazard)), home);
+    }
+
+    /// The same where the hazard has another one: it goes out of its place.
+    ///
+    /// # Safety
+    ///
+    /// The place is the caller's alone.
+    #[cold]
+    pub(super) unsafe fn take_apart(&mut self, home: u32, place: &mut Placed<T>) {
+        // SAFETY: the caller's.
+        let Some(object) = (unsafe { Placed::take(NonNull::from(place)) }) else {
+            return;
+        };
+        let at = self.post().segment().apart(self.post().number());
+        sync::writes(at, "an object apart");
+        // SAFETY: the lane is ours, and none is there between calls.
+        unsafe { at.write(object) };
+        let store = self.store();
+        debug_assert!(store.taken.is_none());
+        (store.taken, store.home) = (Some(APART.cast()), home);
+    }
+
+    /// A create of a place of the lane's own list. None where that has none.
+    #[inline(always)]
+    pub(super) fn create<W: By<T>>(&mut self) -> Option<Begun<'s, T, W>>
     where
         T: Default,
     {
-        let mut source = self.source(brought);
-        let post = self.post();
-        let created = call!(T, self, |pool, lane| {
-            let has_place = match from {
-                AtHand::Listed => lane.state.free.len() > 0,
-                AtHand::Any => lane.has_free(),
-            };
-            // SAFETY: the source is this lane's.
-            has_place.then(|| unsafe {
-                proved::create(pool, lane, &mut source, || post.begins_filling())
-            })
-        });
-        match created {
-            None => Err(Short::NoPlace(source.into_block())),
-            Some(created) => self.begin(created, source).map_err(Short::Failed),
+        if self.lane().state.free.len() == 0 {
+            return None;
         }
+        if self.is_careful() {
+            return self.create_carefully(From::List).ok()?;
+        }
+        self.create_if(|lane| lane.state.free.len() > 0)
     }
 
-    /// A create of a lane without a place at hand, which may open a page. How many it has opened is told then.
+    /// A create of a place at hand. None where there is none.
+    #[inline(always)]
+    pub(super) fn create_at_hand<W: By<T>>(&mut self) -> Option<Begun<'s, T, W>>
+    where
+        T: Default,
+    {
+        if self.is_careful() || self.store().watches {
+            return self.create_carefully(From::Hand).ok()?;
+        }
+        self.create_if(ProvedLane::has_free)
+    }
+
+    /// A create of a place at hand, if there is one. Each is free to be filled.
+    #[inline(always)]
+    fn create_if<W: By<T>>(
+        &mut self,
+        has_place: impl FnOnce(&ProvedLane<T>) -> bool,
+    ) -> Option<Begun<'s, T, W>>
+    where
+        T: Default,
+    {
+        let parts = call!(self, |pool, lane| {
+            has_place(lane).then(|| proved::create(pool, lane))
+        });
+        let warm = self.store().warm.take();
+        Some(self.begin(parts?.ok()?, warm))
+    }
+
+    /// A create, which may open a page. How many the lane has opened is told then.
     #[cold]
     #[inline(never)]
-    pub(super) fn create_apart<W: By<T>>(
-        &mut self,
-        brought: Brought<T>,
-    ) -> Result<Begun<'s, T, W>, CreateError>
+    pub(super) fn create_apart<W: By<T>>(&mut self) -> Result<Begun<'s, T, W>, CreateError>
     where
         T: Default,
     {
-        let mut source = self.source(brought);
-        let post = self.post();
-        let (created, opened) = call!(T, self, |pool, lane| {
-            // SAFETY: the source is this lane's.
-            let created =
-                unsafe { proved::create(pool, lane, &mut source, || post.begins_filling()) };
-            (created, lane.state.pages.opened())
-        });
-        self.post().seat().opened.store(opened, Ordering::Relaxed);
-        self.begin(created, source)
+        let begun = self.create_carefully(From::Pages)?;
+        begun.ok_or(CreateError::Full)
     }
 
-    /// What a create gave. A block that wasn't used is put away.
+    /// What begins in a place that is free to be filled: the object of another one that is `warm`, or its own. Without any it is vacant; but
+    /// one of a plain type is made.
     #[inline(always)]
-    fn begin<W: By<T>>(
+    pub(super) fn begin<W: By<T>>(
         &mut self,
-        created: Result<Parts<T>, CreateFault>,
-        source: Source<T>,
-    ) -> Result<Begun<'s, T, W>, CreateError> {
-        let (key, start, object) = match created {
-            Ok(parts) => parts,
-            Err(fault) => {
-                self.take_back(source.into_block());
-                return Err(fault.into());
-            }
-        };
-        let place = (Key::proved(key), start);
-        let way = W::of(self.at.segment());
-        Ok(Begun::new(self.post(), place, object, way))
+        (key, start): Parts,
+        warm: Option<NonNull<Placed<T>>>,
+    ) -> Begun<'s, T, W>
+    where
+        T: Default,
+    {
+        let (post, way) = (self.post(), W::of(self.at.segment()));
+        post.begins_filling();
+        let place = self.place(start);
+        if let Some(warm) = warm {
+            // SAFETY: the one is the filling's, and the other rests with the lane.
+            unsafe { Placed::change(place, warm) };
+        }
+        // SAFETY: the place is the filling's.
+        let mut object = unsafe { Placed::object(place) }.map(NonNull::from);
+        if T::plain().0 {
+            // SAFETY: as above.
+            let there = object.unwrap_or_else(|| unsafe { Placed::put(place, T::default()) });
+            // SAFETY: as above, and it stands there.
+            unsafe { (*there.as_ptr()).clear() };
+            object = Some(there);
+        }
+        let of = (Key::proved(key), start);
+        match object {
+            Some(object) => Begun::new(post, of, object, way),
+            None => Begun::vacant(post, of, place, way),
+        }
     }
 
     /// What a filling that ends is made of.
     #[inline(always)]
-    fn spend<W>(&mut self, begun: Begun<'_, T, W>) -> Parts<T> {
+    pub(super) fn spend<W>(&mut self, begun: Begun<'_, T, W>) -> Parts {
         self.post().ends_filling();
         begun.into_proved()
     }
 
-    /// The object of a key's place that gets none any more stands there as it is until the close.
+    /// Where a place of the pool stands.
+    #[inline(always)]
+    pub(super) fn place(&mut self, start: u32) -> NonNull<Placed<T>> {
+        // SAFETY: the pool has a place there.
+        unsafe { proved::place_at(self.lane(), start) }
+    }
+
+    /// The object of a key's place that gets none any more stands there as it is until the close. Where that is.
     ///
     /// # Safety
     ///
     /// The call under way reclaimed the place, whose generations are over.
     #[cold]
-    pub(super) unsafe fn put_back(&mut self, key: Key, object: Placed<T>) {
-        let pool = &self.at.segment().proved().as_placed().pool;
-        if let Some(spot) = pool.find(key.into()) {
-            // SAFETY: the place is one of the pool's, and nobody else reaches its object before the close. (A fresh one is there.)
-            unsafe { pool.grid.objects.ptr.add(spot.start as usize).write(object) };
-        }
+    pub(super) unsafe fn put_back(
+        &mut self,
+        key: Key,
+        object: Placed<T>,
+    ) -> Option<NonNull<Placed<T>>> {
+        let spot = self.at.segment().proved().pool.find(key.into())?;
+        let place = self.place(spot.start);
+        // SAFETY: the place is one of the pool's, and nobody else reaches its object before the close. (It has none now.)
+        unsafe { place.as_ptr().write(object) };
+        Some(place)
     }
 
-    /// The place of a filling is back for the close, and isn't published. The block comes back, where the object stands in one.
+    /// The place of a filling is back for the close, and isn't published. Its object comes back, but one of a plain type.
     ///
     /// # Safety
     ///
     /// It is of this lane.
-    pub(super) unsafe fn leave<W>(&mut self, begun: Begun<'_, T, W>) -> Option<Block<T>> {
-        let (_, start, object) = begun.into_proved();
-        of_either!(T, mut self.lane(), |lane| {
-            // SAFETY: the filling is spent.
-            let cell = unsafe { cell() };
-            lane.state.objects.bring_back(start as usize, cell);
-        });
-        // SAFETY: the begin of the filling took it out of a block.
-        (!T::plain().0).then(|| unsafe { Block::of_object(object) })
+    pub(super) unsafe fn leave<W>(&mut self, begun: Begun<'_, T, W>) -> Option<T> {
+        let (_, start) = begun.into_proved();
+        // SAFETY: the filling is spent.
+        let cell = unsafe { cell() };
+        self.lane().state.objects.bring_back(start as usize, cell);
+        if T::plain().0 {
+            return None;
+        }
+        // SAFETY: nobody else reaches the place before the close.
+        unsafe { Placed::take(self.place(start)) }
     }
 
     /// Publishes a filling.
@@ -369,7 +364,7 @@ impl<'s, T: Clear, P: Stands<'s, T>> Turn<'s, T, P> {
         let key = begun.key();
         let parts = self.spend(begun);
         // SAFETY: the caller's.
-        call!(T, self, |pool, lane| unsafe {
+        call!(self, |pool, lane| unsafe {
             proved::publish(pool, lane, parts)
         });
         key
@@ -391,7 +386,7 @@ impl<'s, T: Clear, P: Stands<'s, T>> Turn<'s, T, P> {
         let (post, key, object, way) = (begun.post(), begun.key(), begun.address(), begun.way);
         let parts = self.spend(begun);
         // SAFETY: the caller's.
-        let start = call!(T, self, |pool, lane| unsafe {
+        let start = call!(self, |pool, lane| unsafe {
             proved::downgrade(pool, lane, parts)
         });
         Ok(Held::new(post, (key, start), object, way))
@@ -406,9 +401,7 @@ impl<'s, T: Clear, P: Stands<'s, T>> Turn<'s, T, P> {
         // SAFETY: for the call below.
         let emptier = unsafe { self.emptier(key) };
         let number = u64::from(key);
-        let got = call!(T, self, |pool, lane| proved::get(
-            pool, lane, number, emptier
-        ));
+        let got = call!(self, |pool, lane| proved::get(pool, lane, number, emptier));
         let Some((start, object)) = got else {
             return Ok(None);
         };
@@ -428,7 +421,7 @@ impl<'s, T: Clear, P: Stands<'s, T>> Turn<'s, T, P> {
         // SAFETY: for the call below.
         let emptier = unsafe { self.emptier(held.key()) };
         let parts = held.into_proved();
-        call!(T, self, |pool, lane| {
+        call!(self, |pool, lane| {
             // SAFETY: the caller's, and the reference is spent.
             unsafe { proved::release(pool, lane, parts, emptier) }
         });
@@ -439,7 +432,19 @@ impl<'s, T: Clear, P: Stands<'s, T>> Turn<'s, T, P> {
     pub(super) fn clear(&mut self, key: Key) -> bool {
         // SAFETY: for the call below.
         let emptier = unsafe { self.emptier(key) };
-        call!(T, self, |pool, lane| {
+        self.clear_with(key, emptier)
+    }
+
+    /// A clear of a key whose object is empty.
+    pub(super) fn clear_emptied(&mut self, key: Key) -> bool {
+        // SAFETY: for the call below.
+        let emptier = unsafe { Emptying::<T, true>::of(self.post(), key) };
+        self.clear_with(key, emptier)
+    }
+
+    #[inline(always)]
+    fn clear_with(&mut self, key: Key, emptier: impl Emptier<Placed<T>>) -> bool {
+        call!(self, |pool, lane| {
             pool.clear_with(lane, u64::from(key), emptier)
         })
     }

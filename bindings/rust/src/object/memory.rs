@@ -4,7 +4,7 @@ use crate::sync::{AtomicPtr, AtomicUsize, Ordering};
 use std::alloc::{alloc, Layout};
 use std::marker::PhantomData;
 use std::mem::{self, ManuallyDrop};
-use std::ops::Deref;
+use std::ops::{Deref, DerefMut};
 use std::ptr::{self, NonNull};
 
 /// A value in memory of its own, that may be refused: it doesn't move.
@@ -21,10 +21,17 @@ unsafe impl<V: Sync> Sync for Fixed<V> {}
 impl<V> Fixed<V> {
     /// Where memory is refused the value is dropped.
     pub(crate) fn new(value: V) -> Result<Fixed<V>, MemoryRefused> {
+        Fixed::or_back(value).map_err(|_| MemoryRefused)
+    }
+
+    /// Where memory is refused the value comes back.
+    pub(crate) fn or_back(value: V) -> Result<Fixed<V>, V> {
         const { assert!(mem::size_of::<V>() > 0) };
         // SAFETY: the layout has bytes.
         let at = unsafe { alloc(Layout::new::<V>()) }.cast::<V>();
-        let at = NonNull::new(at).ok_or(MemoryRefused)?;
+        let Some(at) = NonNull::new(at) else {
+            return Err(value);
+        };
         // SAFETY: fresh memory of this layout.
         unsafe { at.as_ptr().write(value) };
         Ok(Fixed::of(at))
@@ -63,6 +70,14 @@ impl<V> Deref for Fixed<V> {
     fn deref(&self) -> &V {
         // SAFETY: it owns the value.
         unsafe { self.at.as_ref() }
+    }
+}
+
+impl<V> DerefMut for Fixed<V> {
+    #[inline(always)]
+    fn deref_mut(&mut self) -> &mut V {
+        // SAFETY: it owns the value.
+        unsafe { self.at.as_mut() }
     }
 }
 

@@ -1,45 +1,119 @@
-//! Objects of plain types, which stand in the pool's places themselves.
-use super::{Source, Stored};
-use crate::clear::Clear;
+//! Objects in their places.
 use crate::erased::slotcell;
 use crate::shim::Global;
 use crate::sync;
 use std::mem::{self, MaybeUninit};
 use std::ptr::NonNull;
 
-/// What the proved pool takes for its object of a plain type: the object itself, or zeros in a place of an opened page that never had one. It
-/// stays there as it is until the next filling of the place begins; or goes to the lane's next filling of any place, if it is the one that the
-/// lane emptied last, whose memory is warm.
+/// What the proved pool takes for its object, at which it never looks, and which has no drop: an object or none, in a place of an opened page.
+/// In places of unopened pages nobody wrote anything. No code of others runs in the pool's calls.
 #[repr(transparent)]
 pub(crate) struct Placed<T> {
-    object: MaybeUninit<T>,
+    object: MaybeUninit<Option<T>>,
 }
 
-impl<T> Placed<T> {
-    /// Whether an object is there. (One of a plain type has a byte that isn't 0, and none between its fields.)
-    #[inline(always)]
-    fn is_there(&self) -> bool {
-        let count = mem::size_of::<T>() / mem::size_of::<usize>();
-        debug_assert_eq!(count * mem::size_of::<usize>(), mem::size_of::<T>());
-        let words = self.object.as_ptr().cast::<usize>();
-        // SAFETY: each byte of zeros is written, and each of an object of a plain type.
-        let word = |index| unsafe { words.add(index).read_unaligned() };
-        (0..count).fold(0, |all, index| all | word(index)) != 0
-    }
+/// Objects of no more bytes go from place to place, so that a filling begins with memory that is warm.
+const MOST_MOVED: usize = 64;
 
-    /// Has what another place had, which gets what this one has. (It may be this one: then nothing changes.)
+/// What the explorer calls it.
+const PLACE: &str = "a place";
+
+impl<T> Placed<T> {
+    /// Whether objects go from place to place.
+    pub(crate) const MOVES: bool = mem::size_of::<Placed<T>>() <= MOST_MOVED;
+
+    /// The page of the place that stands there opens: it has no object.
     ///
     /// # Safety
     ///
-    /// The other is there, and nobody else reaches it meanwhile.
+    /// The place is the caller's alone.
     #[inline(always)]
-    unsafe fn change_with(&mut self, other: NonNull<Placed<T>>) {
-        sync::writes(other.as_ptr(), "place");
-        let (size, both) = (mem::size_of::<T>(), [NonNull::from(self), other]);
+    pub(crate) unsafe fn open(at: NonNull<Self>) {
+        sync::writes(at.as_ptr(), PLACE);
+        // SAFETY: the caller's.
+        unsafe { (*at.as_ptr()).object.write(None) };
+    }
+
+    /// The object of the place that stands there, if it has one.
+    ///
+    /// # Safety
+    ///
+    /// The place is the caller's alone as long as the object is used, and one of an opened page.
+    #[inline(always)]
+    pub(crate) unsafe fn object<'a>(at: NonNull<Self>) -> Option<&'a mut T> {
+        sync::writes(at.as_ptr(), PLACE);
+        // SAFETY: the caller's: it was written as its page opened.
+        unsafe { (*at.as_ptr()).object.assume_init_mut() }.as_mut()
+    }
+
+    /// Takes the object out of the place that stands there.
+    ///
+    /// # Safety
+    ///
+    /// The place is the caller's alone, and one of an opened page.
+    #[inline]
+    pub(crate) unsafe fn take(at: NonNull<Self>) -> Option<T> {
+        sync::writes(at.as_ptr(), PLACE);
+        // SAFETY: as above.
+        unsafe { (*at.as_ptr()).object.assume_init_mut() }.take()
+    }
+
+    /// The place that stands there goes, with its object.
+    ///
+    /// # Safety
+    ///
+    /// The place is the caller's alone, and one of an opened page; and it isn't used any more.
+    #[inline]
+    pub(crate) unsafe fn drop_object(at: NonNull<Self>) {
+        sync::writes(at.as_ptr(), PLACE);
+        // SAFETY: as above.
+        unsafe { (*at.as_ptr()).object.assume_init_drop() };
+    }
+
+    /// Puts an object into the place that stands there, which has none. Where the object stands then.
+    ///
+    /// # Safety
+    ///
+    /// The place is the caller's alone.
+    #[inline(always)]
+    pub(crate) unsafe fn put(at: NonNull<Self>, object: T) -> NonNull<T> {
+        sync::writes(at.as_ptr(), PLACE);
+        // SAFETY: the caller's; an object was put in just now.
+        unsafe {
+            let place = (*at.as_ptr()).object.write(Some(object));
+            NonNull::from(place.as_mut().unwrap_unchecked())
+        }
+    }
+
+    /// Where the object stands, for who reads it.
+    ///
+    /// # Safety
+    ///
+    /// It has one, and nobody writes it meanwhile.
+    #[inline(always)]
+    pub(crate) unsafe fn address(&self) -> NonNull<T> {
+        // SAFETY: the caller's.
+        let object = unsafe { self.object.assume_init_ref().as_ref() };
+        debug_assert!(object.is_some());
+        // SAFETY: as above.
+        NonNull::from(unsafe { object.unwrap_unchecked() })
+    }
+
+    /// The place that stands there has what another one had, which gets what it had. (It may be the same one: then nothing changes.)
+    ///
+    /// # Safety
+    ///
+    /// Both are the caller's alone, and of opened pages.
+    #[inline(always)]
+    pub(crate) unsafe fn change(at: NonNull<Self>, other: NonNull<Self>) {
+        sync::writes(at.as_ptr(), PLACE);
+        sync::writes(other.as_ptr(), PLACE);
+        let (size, both) = (mem::size_of::<Self>(), [at, other]);
         // SAFETY: the caller's. (Long words first.)
         unsafe {
             let begin = exchange::<u128, _>(both, 0, size);
-            let end = exchange::<usize, _>(both, begin, size);
+            let begin = exchange::<u64, _>(both, begin, size);
+            let end = exchange::<u8, _>(both, begin, size);
             debug_assert_eq!(end, size);
         }
     }
@@ -67,58 +141,13 @@ unsafe fn exchange<W, T>(both: [NonNull<T>; 2], begin: usize, size: usize) -> us
     at
 }
 
-impl<T> Stored<T> for Placed<T> {
-    #[inline(always)]
-    unsafe fn begin(at: NonNull<Self>, source: &mut Source<T>) -> NonNull<T>
-    where
-        T: Clear + Default,
-    {
-        sync::writes(at.as_ptr(), "place");
-        // SAFETY: the caller's.
-        let place = unsafe { &mut *at.as_ptr() };
-        if let Source::Warm(warm) = *source {
-            // SAFETY: the caller's.
-            unsafe { place.change_with(warm) };
-        } else if !place.is_there() {
-            place.object.write(T::default());
-        }
-        debug_assert!(place.is_there());
-        // SAFETY: an object is there, as one is in a place that was emptied.
-        unsafe { place.object.assume_init_mut() }.clear();
-        at.cast()
-    }
-
-    #[inline(always)]
-    unsafe fn end(_: NonNull<Self>, _: NonNull<T>) {}
-
-    #[inline]
-    unsafe fn close(at: NonNull<Self>) {
-        if !mem::needs_drop::<T>() {
-            return;
-        }
-        sync::writes(at.as_ptr(), "place");
-        // SAFETY: the caller's.
-        let place = unsafe { &mut *at.as_ptr() };
-        if place.is_there() {
-            // SAFETY: an object is there, and goes with its place.
-            unsafe { place.object.assume_init_drop() };
-        }
-    }
-
-    #[inline(always)]
-    unsafe fn address(&self) -> NonNull<T> {
-        debug_assert!(self.is_there());
-        NonNull::from(self).cast()
-    }
-}
-
 impl<T> slotcell::Clear for Placed<T> {
     const UNWRITTEN: bool = true;
 
     #[inline]
     fn fresh(_: Global) -> Placed<T> {
         Placed {
-            object: MaybeUninit::zeroed(),
+            object: MaybeUninit::new(None),
         }
     }
 
@@ -138,24 +167,32 @@ mod tests {
     use crate::buffer::Buffer;
     use std::collections::VecDeque;
 
-    /// An empty object of a plain type isn't zeros, as a place is that has none.
+    /// Whether there is an object takes no memory where the type has values of no use.
     #[test]
-    fn an_object_is_told_from_none() {
-        fn told<T: Clear + Default>() {
-            assert!(T::plain().0);
-            let mut place = <Placed<T> as slotcell::Clear>::fresh(Global);
-            assert!(!place.is_there());
-            place.object.write(T::default());
-            assert!(place.is_there());
-            // SAFETY: the place is ours, and isn't used any more.
-            unsafe { Placed::close(NonNull::from(&mut place)) };
+    fn a_place_is_as_large_as_its_object() {
+        fn same<T>() {
+            assert_eq!(mem::size_of::<Placed<T>>(), mem::size_of::<T>());
         }
-        told::<Buffer>();
-        told::<String>();
-        told::<Vec<u8>>();
-        told::<Vec<()>>();
-        told::<Vec<[u64; 3]>>();
-        told::<VecDeque<u32>>();
-        told::<VecDeque<()>>();
+        same::<Buffer>();
+        same::<String>();
+        same::<Vec<u8>>();
+        same::<VecDeque<u32>>();
+        assert_eq!(mem::size_of::<Placed<u64>>(), 16);
+    }
+
+    #[test]
+    fn places_change_what_they_have() {
+        let mut places = [Some([7_u8; 37]), None].map(|object| Placed {
+            object: MaybeUninit::new(object),
+        });
+        let [one, other] = &mut places;
+        let [one, other] = [NonNull::from(one), NonNull::from(other)];
+        // SAFETY: the places are ours, and written.
+        unsafe {
+            Placed::change(one, other);
+            Placed::change(other, other);
+            assert_eq!(Placed::take(one), None);
+            assert_eq!(Placed::take(other), Some([7; 37]));
+        }
     }
 }

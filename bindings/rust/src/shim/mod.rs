@@ -58,15 +58,15 @@ fn out_of_range() -> ! {
     panic!("an index is out of range")
 }
 
-/// Has the processor fetch the line of its cache that an address is in, while the program goes on. It reads nothing.
+/// Has the processor fetch the line of its cache that an address is in, to be written, while the program goes on. It reads nothing.
 #[inline(always)]
 pub(crate) fn fetch_ahead<T>(at: *const T) {
-    #[cfg(target_arch = "x86_64")]
-    // SAFETY: any address may be fetched ahead.
+    #[cfg(all(target_arch = "x86_64", not(miri)))]
+    // SAFETY: any address may be fetched ahead. (A processor that doesn't know this passes it by.)
     unsafe {
-        std::arch::x86_64::_mm_prefetch::<{ std::arch::x86_64::_MM_HINT_T0 }>(at.cast())
+        std::arch::asm!("prefetchw [{}]", in(reg) at, options(nostack, preserves_flags, readonly));
     }
-    #[cfg(not(target_arch = "x86_64"))]
+    #[cfg(not(all(target_arch = "x86_64", not(miri))))]
     let _ = at;
 }
 

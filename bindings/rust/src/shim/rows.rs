@@ -95,8 +95,8 @@ impl<T> Vec<T> {
         self.fill(length, make);
     }
 
-    /// So many empty objects. With `unwritten` they take no memory, and come out of the row as zeros; or the row is to stay where it is, and
-    /// has memory of which no byte is written.
+    /// So many empty objects. With `unwritten` they take no memory, and what comes out of the row is bytes that nobody wrote; or the row is to
+    /// stay where it is, and has memory of such.
     ///
     /// # Safety
     ///
@@ -181,7 +181,7 @@ impl<T> Vec<T> {
             let at = heap::memory::<U>(count).ok_or(AllocError)?.as_ptr();
             if cfg!(pardz_explore) {
                 // SAFETY: it is memory for so many. (What reads it, as what nobody wrote, finds no address there.)
-                unsafe { ptr::write_bytes(at, 0x5A, count) };
+                unsafe { ptr::write_bytes(at, 0x5B, count) };
             }
             return Ok((at, count));
         }
@@ -328,8 +328,9 @@ impl<T> Iterator for IntoIter<T> {
             return Some(unsafe { self.at.as_ptr().add(index).read() });
         }
         self.unwritten = self.unwritten.checked_sub(1)?;
-        // SAFETY: zeros are such a value, as `fresh` was told.
-        Some(unsafe { MaybeUninit::zeroed().assume_init() })
+        let nobody_wrote = MaybeUninit::uninit();
+        // SAFETY: it is such a value, as `fresh` was told.
+        Some(unsafe { nobody_wrote.assume_init() })
     }
 }
 

@@ -163,6 +163,12 @@ impl<S> Shared<S> {
         self.word(index).load(Relaxed)
     }
 
+    /// A word is to be written soon: it is fetched ahead.
+    #[inline(always)]
+    pub(crate) fn fetch_ahead(&self, index: usize) {
+        super::fetch_ahead(self.words.wrapping_add(index));
+    }
+
     /// Puts a value into a slot that the seat took, and answers the one before.
     #[inline(always)]
     pub(crate) fn exchange(&self, _: &mut Seat<S>, index: usize, value: S) -> S {
