@@ -182,6 +182,21 @@ fn a_thread_shares_in_pools_of_other_shapes() {
 }
 
 /// Pools that are closed, and others after them, whose lanes a thread takes anew.
+/// A key of a lane, page or place that the pool doesn't have is found by no call, and cleared by none.
+#[test]
+fn keys_that_no_place_has() {
+    let pool = opened(4);
+    let kept = pool.put("kept").expect("a place");
+    for (shard, page) in (0..256).flat_map(|shard| (0..16).map(move |page| (shard, page))) {
+        for slot in [if shard < 8 { 4095 } else { 0 }, 4095] {
+            let number = 1 << 24 | shard << 16 | page << 12 | slot;
+            let key = Key::try_from(number).expect("it has a generation");
+            assert!(pool.get(key).is_none() && !pool.clear(key), "{number:x}");
+        }
+    }
+    assert_eq!(*pool.get(kept).expect("published"), "kept");
+}
+
 #[test]
 fn pools_that_come_and_go() {
     for round in 0..3 * MANY {

@@ -234,7 +234,7 @@ impl<T: Clear> Room<T> {
         };
         // SAFETY: it is of this pool.
         let Some(here) = (unsafe { own.within(segment) }) else {
-            return self.clear_by_lock(Caller::Sharing, segment, key);
+            return segment.has_to_clear(key) && self.clear_by_lock(Caller::Sharing, segment, key);
         };
         if key.shard() != here.post().number() {
             if self.lanes.is_shared(key.shard()) {

@@ -145,10 +145,10 @@ impl Lanes {
         }
     }
 
-    /// Whether a lane is shared, as of this look.
+    /// Whether a lane is shared, as of this look. (Of a number that no lane has it says one or the other.)
     #[inline]
     pub(super) fn is_shared(&self, number: u32) -> bool {
-        self.shared.load(Ordering::Relaxed) & Number(number).bit() != 0
+        self.shared.load(Ordering::Relaxed).wrapping_shr(number) & 1 != 0
     }
 
     /// Takes a lane that is at home.
