@@ -242,11 +242,21 @@ impl<T: Clear> Room<T> {
             }
             return here.segment().has_to_clear(key) && here.clear(key);
         }
-        if here.post() != own.post() {
-            // SAFETY: the thread keeps the lane of this seat.
-            unsafe { self.had_place(here.post()) };
+        if here.segment().lacks(key) {
+            return false;
         }
-        !here.segment().lacks(key) && here.clear(key)
+        if here.post() != own.post() {
+            return self.clear_elsewhere(here, key);
+        }
+        here.clear(key)
+    }
+
+    /// A clear of the lane's own key in another segment than it had a place last. (Apart, so that nothing leads back to the call's own path.)
+    #[inline(never)]
+    fn clear_elsewhere<'s>(&'s self, own: Own<'s, T, Near<'s, T>>, key: Key) -> bool {
+        // SAFETY: the thread keeps the lane of this seat.
+        unsafe { self.had_place(own.post()) };
+        own.clear(key)
     }
 
     #[inline(never)]
