@@ -147,6 +147,40 @@ fn in_default() {
     assert_eq!(pool.close().present, 4);
 }
 
+/// An owned handle whose object isn't made is no user of its lane, which would keep the pool's memory.
+#[test]
+fn in_default_of_an_owned_handle() {
+    static CALLS: AtomicUsize = AtomicUsize::new(0);
+    static ALIVE: AtomicUsize = AtomicUsize::new(0);
+    #[derive(Debug)]
+    struct Third;
+    impl Default for Third {
+        fn default() -> Third {
+            assert_ne!(CALLS.fetch_add(1, SeqCst), 0, "on purpose");
+            ALIVE.fetch_add(1, SeqCst);
+            Third
+        }
+    }
+    impl Drop for Third {
+        fn drop(&mut self) {
+            ALIVE.fetch_sub(1, SeqCst);
+        }
+    }
+    impl Clear for Third {
+        fn clear(&mut self) {}
+    }
+    let pool = Pool::<Third>::open(shape(1)).unwrap();
+    // (So the calls share the lane that the pool has beside its shape, of one place.)
+    let lane = pool.lane().unwrap();
+    panics(|| pool.create_owned().map(|filling| filling.publish()));
+    let key = pool.create_owned().unwrap().publish();
+    assert!(pool.get(key).is_some());
+    drop(lane);
+    assert_eq!((CALLS.load(SeqCst), ALIVE.load(SeqCst)), (2, 1));
+    drop(pool);
+    assert_eq!(ALIVE.load(SeqCst), 0);
+}
+
 #[test]
 fn in_a_closure() {
     let pool = Pool::<String>::open(shape(1)).unwrap();

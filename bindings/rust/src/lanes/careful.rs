@@ -4,7 +4,7 @@ use super::hazard::Hazard;
 use super::proved::{self, Parts};
 use super::seat::{Post, Stands};
 use super::token::{Begun, By};
-use super::turn::{call, From, Turn};
+use super::turn::{call, Places, Turn};
 use crate::clear::Clear;
 use crate::errors::CreateError;
 use crate::key::Key;
@@ -20,7 +20,7 @@ impl<'s, T: Clear, P: Stands<'s, T>> Turn<'s, T, P> {
     /// A create. None where there is no such place.
     pub(super) fn create_carefully<W: By<T>>(
         &mut self,
-        from: From,
+        from: Places,
     ) -> Result<Option<Begun<'s, T, W>>, CreateError>
     where
         T: Default,
@@ -28,18 +28,20 @@ impl<'s, T: Clear, P: Stands<'s, T>> Turn<'s, T, P> {
         let mut warm = self.store().warm.take();
         if T::plain().0 {
             let parts = self.create_by(from)?;
-            return Ok(parts.map(|parts| self.begin(parts, warm)));
+            // SAFETY: no hazard has a place of a plain type; and what is warm rests with the lane.
+            return Ok(parts.map(|parts| unsafe { self.begin(parts, warm) }));
         }
         if self.post().seat().hazard.is_set() {
             // (It may be the one that is being emptied.)
             warm = None;
         }
         let parts = self.create_free(from)?;
-        Ok(parts.map(|parts| self.begin(parts, warm)))
+        // SAFETY: the place is free; and what is warm rests with the lane.
+        Ok(parts.map(|parts| unsafe { self.begin(parts, warm) }))
     }
 
     /// A create whose place is free to be filled.
-    fn create_free(&mut self, from: From) -> Result<Option<Parts>, CreateError> {
+    fn create_free(&mut self, from: Places) -> Result<Option<Parts>, CreateError> {
         if let Some(parts) = self.take_aside() {
             return Ok(Some(parts));
         }
@@ -59,25 +61,26 @@ impl<'s, T: Clear, P: Stands<'s, T>> Turn<'s, T, P> {
     }
 
     /// A create of the proved pool. How many pages the lane has opened is told then.
-    fn create_by(&mut self, from: From) -> Result<Option<Parts>, CreateError> {
+    fn create_by(&mut self, from: Places) -> Result<Option<Parts>, CreateError> {
         let (created, took, opened) = call!(self, |pool, lane| {
             let (has_chain, before) =
                 (lane.state.free.chain().is_some(), lane.state.pages.opened());
             let has_place = match from {
-                From::List => lane.state.free.len() > 0,
-                From::Hand => lane.has_free(),
-                From::Pages => true,
+                Places::Listed => lane.state.free.len() > 0,
+                Places::AtHand => lane.has_free(),
+                Places::All => true,
             };
             let created = has_place.then(|| proved::create(pool, lane));
             let opened = lane.state.pages.opened();
             if opened > before {
-                proved::open_places(lane, before);
+                // SAFETY: the call opened those pages, and what it gave of them isn't used yet.
+                unsafe { proved::open_places(lane, before) };
             }
-            let took = matches!(from, From::Pages) && !has_chain;
+            let took = matches!(from, Places::All) && !has_chain;
             let took = took && matches!(created, Some(Ok(_))) && !T::plain().0;
             (created, took, opened)
         });
-        if matches!(from, From::Pages) {
+        if matches!(from, Places::All) {
             self.post().seat().opened.store(opened, Ordering::Relaxed);
         }
         self.store().watches |= took;

@@ -55,7 +55,8 @@ impl<T: Clear, const IS_EMPTY: bool> Emptier<Placed<T>> for Emptying<'_, T, IS_E
                 // SAFETY: the call reclaimed the place, so that its object is this lane's.
                 return unsafe { self.turn().take_apart(home, object) };
             }
-            self.turn().take_out(home, hazard);
+            // SAFETY: it began with the place of a published key, which has an object.
+            unsafe { self.turn().take_out(home, hazard) };
         }
         if is_own && Placed::<T>::MOVES {
             self.turn().store().warm = Some(NonNull::from(object));

@@ -168,6 +168,7 @@ impl<'s, T: Clear, P: Stands<'s, T>> Own<'s, T, P> {
         T: Default,
     {
         match self.turn().create() {
+            // (By arms of its own, so that what isn't vacant stays in registers.)
             Some(begun) if begun.is_vacant() => Ok(fill(self.post(), begun)),
             Some(begun) => Ok(begun),
             None => Begun::by_parts(self.create_behind(apart)),
@@ -184,8 +185,7 @@ impl<'s, T: Clear, P: Stands<'s, T>> Own<'s, T, P> {
         T: Default,
     {
         match self.turn().create_at_hand() {
-            Some(begun) if begun.is_vacant() => Ok(fill(self.post(), begun)),
-            Some(begun) => Ok(begun),
+            Some(begun) => Ok(self.filled(begun)),
             None => apart(self),
         }
     }
@@ -205,11 +205,19 @@ impl<'s, T: Clear, P: Stands<'s, T>> Own<'s, T, P> {
         T: Default,
     {
         let begun = self.turn().create_apart()?;
-        Ok(if begun.is_vacant() {
-            fill(self.post(), begun)
-        } else {
-            begun
-        })
+        Ok(self.filled(begun))
+    }
+
+    /// What began, with an object if its place has none.
+    #[inline(always)]
+    fn filled<W: By<T>>(self, begun: Begun<'s, T, W>) -> Begun<'s, T, W>
+    where
+        T: Default,
+    {
+        if begun.is_vacant() {
+            return fill(self.post(), begun);
+        }
+        begun
     }
 
     /// The lane in this or another segment, if that has so many.

@@ -152,7 +152,11 @@ fn places_of<T>(lane: &ProvedLane<T>, pages: u32) -> usize {
 }
 
 /// The places of a lane have no objects yet that stand in pages which it opened: those behind so many pages.
-pub(super) fn open_places<T>(lane: &ProvedLane<T>, before: u32) {
+///
+/// # Safety
+///
+/// None of them has an object, and no call has used one.
+pub(super) unsafe fn open_places<T>(lane: &ProvedLane<T>, before: u32) {
     let first = lane.state.objects.first();
     let [begin, end] = [before, lane.state.pages.opened()].map(|pages| places_of(lane, pages));
     for start in first + begin..first + end {

@@ -74,8 +74,7 @@ impl<'s, T: Clear> Post<'s, T> {
             Some(with_spare(turn, begun))
         });
         match begun.ok_or(NotShared)? {
-            Some((begun, spare)) if begun.is_vacant() => Ok(Ok(self.shared_fill(begun, spare))),
-            Some((begun, _)) => Ok(Ok(begun.shared())),
+            Some((begun, spare)) => Ok(Ok(self.shared_filled(begun, spare))),
             None => self.shared_create_apart(come).map(Begun::by_parts),
         }
     }
@@ -95,18 +94,13 @@ impl<'s, T: Clear> Post<'s, T> {
             come(joint);
             Ok(with_spare(turn, begun))
         });
-        Ok(created.ok_or(NotShared)?.map(|(begun, spare)| {
-            if begun.is_vacant() {
-                self.shared_fill(begun, spare)
-            } else {
-                begun.shared()
-            }
-        }))
+        let created = created.ok_or(NotShared)?;
+        Ok(created.map(|(begun, spare)| self.shared_filled(begun, spare)))
     }
 
-    /// A filling of the lane gets an object, as its place has none: without the lock.
+    /// What began, with an object if its place has none: without the lock.
     #[inline(always)]
-    fn shared_fill<W: By<T>>(
+    fn shared_filled<W: By<T>>(
         self,
         begun: Begun<'s, T, W>,
         spare: Option<Block<T>>,
@@ -114,13 +108,16 @@ impl<'s, T: Clear> Post<'s, T> {
     where
         T: Default,
     {
+        if !begun.is_vacant() {
+            return begun.shared();
+        }
         let filled = begun.filled(spare, |begun| {
             // SAFETY: the lane has a filling, so that it is shared, or lent; and the filling is of this lane.
             unsafe {
                 self.locked(|turn, joint| {
                     turn.set_vacant_aside(begun);
                     // (The pool is borrowed, and so keeps its memory.)
-                    W::goes(joint);
+                    W::leaves(joint);
                 });
             }
         });

@@ -17,8 +17,8 @@ pub(crate) trait By<T: Clear>: Copy {
     /// For what a call gives of the segment that was asked.
     fn of(segment: &Segment<T>) -> Self;
 
-    /// What came to a shared lane goes again, and was no handle yet.
-    fn goes(_: &mut Joint) {}
+    /// What came to a shared lane leaves it, as nothing became of it.
+    fn leaves(_: &mut Joint) {}
 }
 
 /// By a lane in hand, which is borrowed: without a lock.
@@ -79,7 +79,7 @@ impl<T: Clear> By<T> for OfThread<T> {
 impl<T: Clear> By<T> for Far {
     const STAYS: bool = false;
 
-    fn goes(joint: &mut Joint) {
+    fn leaves(joint: &mut Joint) {
         joint.leave();
     }
 
@@ -282,11 +282,16 @@ impl<'s, T: Clear, W> Begun<'s, T, W> {
     }
 
     /// A vacant one has the spare object from now on, or a new one. Where the making of that panics, the filling is set aside.
+    ///
+    /// # Panics
+    ///
+    /// Where it isn't vacant.
     #[inline(always)]
     pub(super) fn filled(mut self, spare: Option<Block<T>>, set_aside: impl FnOnce(Self)) -> Self
     where
         T: Default,
     {
+        assert!(self.is_vacant());
         let made = match spare {
             Some(block) => Ok(block.into_object()),
             None => panic::catch_unwind(T::default),

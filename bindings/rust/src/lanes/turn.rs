@@ -38,13 +38,13 @@ impl Drop for Call {
 
 /// Which places a create may take.
 #[derive(Clone, Copy)]
-pub(super) enum From {
+pub(super) enum Places {
     /// Those of the lane's own list.
-    List,
+    Listed,
     /// These, and those that other lanes returned and it took back.
-    Hand,
+    AtHand,
     /// These, and those of further pages.
-    Pages,
+    All,
 }
 
 /// In `Store::taken`: it is apart.
@@ -190,8 +190,12 @@ impl<'s, T: Clear, P: Stands<'s, T>> Turn<'s, T, P> {
     }
 
     /// The call under way took an object out of use that the hazard has, of the place of this lane.
+    ///
+    /// # Safety
+    ///
+    /// The hazard is one of this lane's, which began with the place just now, and that has an object.
     #[inline(always)]
-    pub(super) fn take_out(&mut self, home: u32, hazard: &Hazard<T>) {
+    pub(super) unsafe fn take_out(&mut self, home: u32, hazard: &Hazard<T>) {
         let store = self.store();
         debug_assert!(store.taken.is_none());
         (store.taken, store.home) = (Some(NonNull::from(hazard)), home);
@@ -227,7 +231,7 @@ impl<'s, T: Clear, P: Stands<'s, T>> Turn<'s, T, P> {
             return None;
         }
         if self.is_careful() {
-            return self.create_carefully(From::List).ok()?;
+            return self.create_carefully(Places::Listed).ok()?;
         }
         self.create_if(|lane| lane.state.free.len() > 0)
     }
@@ -239,7 +243,7 @@ impl<'s, T: Clear, P: Stands<'s, T>> Turn<'s, T, P> {
         T: Default,
     {
         if self.is_careful() || self.store().watches {
-            return self.create_carefully(From::Hand).ok()?;
+            return self.create_carefully(Places::AtHand).ok()?;
         }
         self.create_if(ProvedLane::has_free)
     }
@@ -257,7 +261,8 @@ impl<'s, T: Clear, P: Stands<'s, T>> Turn<'s, T, P> {
             has_place(lane).then(|| proved::create(pool, lane))
         });
         let warm = self.store().warm.take();
-        Some(self.begin(parts?.ok()?, warm))
+        // SAFETY: a create gave the place, which is free; and what is warm rests with the lane.
+        Some(unsafe { self.begin(parts?.ok()?, warm) })
     }
 
     /// A create, which may open a page. How many the lane has opened is told then.
@@ -267,14 +272,18 @@ impl<'s, T: Clear, P: Stands<'s, T>> Turn<'s, T, P> {
     where
         T: Default,
     {
-        let begun = self.create_carefully(From::Pages)?;
+        let begun = self.create_carefully(Places::All)?;
         begun.ok_or(CreateError::Full)
     }
 
     /// What begins in a place that is free to be filled: the object of another one that is `warm`, or its own. Without any it is vacant; but
     /// one of a plain type is made.
+    ///
+    /// # Safety
+    ///
+    /// A create of this lane gave the parts, whose place no hazard has. The warm one is another place that rests with the lane, or the same.
     #[inline(always)]
-    pub(super) fn begin<W: By<T>>(
+    pub(super) unsafe fn begin<W: By<T>>(
         &mut self,
         (key, start): Parts,
         warm: Option<NonNull<Placed<T>>>,
