@@ -21,7 +21,7 @@ from forms import Parser
 ALWAYS_INLINE = {
     "shardpool/cell_moves": {"spread_cell", "take_cell"},
     "shardpool/clear": {"clear"},
-    "shardpool/create": {"create_apart", "fill", "pop"},
+    "shardpool/create": {"create_apart", "fill", "follow", "next_key", "pop"},
     "shardpool/get": {"get", "get_at"},
     "shardpool/publish": {"publish"},
     "shardpool/reclaim": {"give_home"},

@@ -13,7 +13,8 @@ use std::ops::{Deref, DerefMut};
 ///
 /// One that is dropped without a publish gives its place back: the object is emptied, and its key used up, so that it never names
 /// another one. (For that it is published and cleared at once. Who guesses the key could get the emptied object in between.) One that
-/// is leaked keeps its place until the pool is closed, which drops the object; the pool's row of places then isn't freed.
+/// is leaked keeps its place until the pool ends, which drops the object. (If that is by [`Pool::close`](crate::Pool::close), the pool's row
+/// of places isn't freed then.)
 ///
 /// ```
 /// # use pardz::{Pool, Shape};

@@ -351,8 +351,9 @@ impl<T: Clear> Pool<T> {
         self.len() == 0
     }
 
-    /// Closes the pool, drops its objects, and counts its places. A filling or a reference that was leaked ([`std::mem::forget`]) is
-    /// in the count. Where owned handles live, what they have is in the count too, and the objects are dropped with the last of them.
+    /// Closes the pool, drops its objects, and counts its places. (A pool that is dropped ends as well, sooner, as nobody counts.) A filling
+    /// or a reference that was leaked ([`std::mem::forget`]) is in the count. Where owned handles live, what they have is in the count too,
+    /// and the objects are dropped with the last of them.
     ///
     /// ```
     /// use pardz::{Pool, Shape};

@@ -7,7 +7,7 @@ use std::alloc::{GlobalAlloc, Layout, System};
 use std::cell::{Cell, OnceCell};
 use std::sync::atomic::{AtomicUsize, Ordering::SeqCst};
 use std::sync::{Arc, OnceLock};
-use std::{env, ptr};
+use std::{env, mem, ptr};
 
 /// The system's memory, with a hook at each request and each free.
 struct Hooked;
@@ -321,9 +321,9 @@ fn use_once(pool: &Pool<String>) {
 }
 
 /// A thread that goes on keeps nothing of pools that have ended, but of the last ones.
-fn ends_without_a_rest(name: &str, use_one: impl Fn(&Pool<String>)) {
+fn ends_without_a_rest(name: &str, use_one: impl Fn(Pool<String>)) {
     alone(name, || {
-        let rounds = |count: usize| (0..count).for_each(|_| use_one(&small()));
+        let rounds = |count: usize| (0..count).for_each(|_| use_one(small()));
         rounds(10);
         let before = BLOCKS.load(SeqCst);
         rounds(500);
@@ -334,7 +334,7 @@ fn ends_without_a_rest(name: &str, use_one: impl Fn(&Pool<String>)) {
 
 #[test]
 fn pools_that_ended_leave_nothing() {
-    ends_without_a_rest("pools_that_ended_leave_nothing", use_once);
+    ends_without_a_rest("pools_that_ended_leave_nothing", |pool| use_once(&pool));
 }
 
 #[test]
@@ -342,7 +342,20 @@ fn pools_with_a_forgotten_filling_leave_nothing() {
     ends_without_a_rest("pools_with_a_forgotten_filling_leave_nothing", |pool| {
         let lane = pool.lane().expect("nobody has it");
         lane.create().unwrap().forget();
+        drop(lane);
+        assert_eq!(pool.close().filling, 1);
     });
+}
+
+#[test]
+fn dropped_pools_with_a_leaked_filling_leave_nothing() {
+    ends_without_a_rest(
+        "dropped_pools_with_a_leaked_filling_leave_nothing",
+        |pool| {
+            let lane = pool.lane().expect("nobody has it");
+            mem::forget(lane.create().unwrap());
+        },
+    );
 }
 
 /// When a thread has left its lanes, the hook takes up one of them, and calls the pool by another one.

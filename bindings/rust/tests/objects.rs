@@ -64,6 +64,24 @@ fn an_object_is_empty_when_its_place_is_given_again() {
     }
 }
 
+/// By calls, of a thread that asks for as many places as its own lane and a shared one have.
+#[test]
+fn an_object_of_a_shared_lane_is_emptied() {
+    let pool = Pool::<Span>::open(shape(4)).unwrap();
+    for round in 0..3 {
+        let put = |_| {
+            let mut span = pool.create().unwrap();
+            assert_eq!((span.clears, span.name.as_str()), (round, ""));
+            span.name.push_str("request");
+            span.publish()
+        };
+        let keys: Vec<Key> = (0..24).map(put).collect();
+        let lane_of = |key: &Key| u64::from(*key) >> 16 & 0xFF;
+        assert!(keys.iter().any(|key| lane_of(key) != lane_of(&keys[0])));
+        keys.into_iter().for_each(|key| assert!(pool.clear(key)));
+    }
+}
+
 #[test]
 fn wrong_shapes() {
     assert_eq!(

@@ -40,9 +40,10 @@ impl<'s, T: Clear, const IS_EMPTY: bool> Emptying<'s, T, IS_EMPTY> {
     }
 }
 
-impl<T: Clear, const IS_EMPTY: bool> Emptier<Placed<T>> for Emptying<'_, T, IS_EMPTY> {
+impl<'s, T: Clear, const IS_EMPTY: bool> Emptying<'s, T, IS_EMPTY> {
+    /// What the call takes out is for the lane `by` to empty, which is told so.
     #[inline(always)]
-    fn empty(&mut self, object: &mut Placed<T>) {
+    fn empty_by(self, by: Post<'s, T>, object: &mut Placed<T>) {
         let (post, home) = (self.post, self.key.shard());
         let is_own = home == post.number();
         if !T::plain().0 && !IS_EMPTY {
@@ -51,12 +52,14 @@ impl<T: Clear, const IS_EMPTY: bool> Emptier<Placed<T>> for Emptying<'_, T, IS_E
             } else {
                 post.segment().hazard(home, post.number())
             };
+            // SAFETY: as in `turn`; and it is that lane, or promised by who made an `EmptyingBy`.
+            let mut by = unsafe { Turn::of(by) };
             if !hazard.begin(object) {
-                // SAFETY: the call reclaimed the place, so that its object is this lane's.
-                return unsafe { self.turn().take_apart(home, object) };
+                // SAFETY: the call reclaimed the place, so that its object is this thread's.
+                return unsafe { by.take_apart(home, object) };
             }
             // SAFETY: it began with the place of a published key, which has an object.
-            unsafe { self.turn().take_out(home, hazard) };
+            unsafe { by.take_out(home, hazard) };
         }
         if is_own && Placed::<T>::MOVES {
             self.turn().store().warm = Some(NonNull::from(object));
@@ -65,13 +68,62 @@ impl<T: Clear, const IS_EMPTY: bool> Emptier<Placed<T>> for Emptying<'_, T, IS_E
 
     /// (It goes with its place, since the allocator isn't called within a call.)
     #[inline(always)]
-    fn retire(&mut self, object: Placed<T>) {
+    fn retire_by(self, by: Post<'s, T>, object: Placed<T>) {
         // SAFETY: it is the object of the key's place, which the call reclaimed.
         let place = unsafe { self.turn().put_back(self.key, object) };
         if let (Some(mut place), false) = (place, T::plain().0) {
             // SAFETY: nobody else reaches it before the close, but by the hazard.
-            self.empty(unsafe { place.as_mut() });
+            self.empty_by(by, unsafe { place.as_mut() });
             self.turn().store().warm = None;
         }
+    }
+}
+
+impl<T: Clear, const IS_EMPTY: bool> Emptier<Placed<T>> for Emptying<'_, T, IS_EMPTY> {
+    #[inline(always)]
+    fn empty(&mut self, object: &mut Placed<T>) {
+        self.empty_by(self.post, object);
+    }
+
+    #[inline(always)]
+    fn retire(&mut self, object: Placed<T>) {
+        self.retire_by(self.post, object);
+    }
+}
+
+/// The same for a call that another lane of the segment has made: that empties. (Apart, since a third word would go through memory.)
+pub(super) struct EmptyingBy<'s, T: Clear> {
+    emptying: Emptying<'s, T>,
+    by: Post<'s, T>,
+}
+
+impl<T: Clear> Clone for EmptyingBy<'_, T> {
+    #[inline(always)]
+    fn clone(&self) -> Self {
+        *self
+    }
+}
+
+impl<T: Clear> Copy for EmptyingBy<'_, T> {}
+
+impl<'s, T: Clear> EmptyingBy<'s, T> {
+    /// # Safety
+    ///
+    /// As of [`Emptying::of`]; and this thread has the other lane alone, of the same segment, which isn't used meanwhile.
+    #[inline(always)]
+    pub(super) unsafe fn of(emptying: Emptying<'s, T>, by: Post<'s, T>) -> Self {
+        EmptyingBy { emptying, by }
+    }
+}
+
+impl<T: Clear> Emptier<Placed<T>> for EmptyingBy<'_, T> {
+    #[inline(always)]
+    fn empty(&mut self, object: &mut Placed<T>) {
+        self.emptying.empty_by(self.by, object);
+    }
+
+    #[inline(always)]
+    fn retire(&mut self, object: Placed<T>) {
+        self.emptying.retire_by(self.by, object);
     }
 }

@@ -2,6 +2,7 @@
 //! as long as it has one.
 use super::room::Room;
 use super::seat::{Joint, Post};
+use super::threads::Here;
 use super::token::{Begun, Far, Held, Spend, Spent};
 use crate::clear::Clear;
 use crate::errors::{CreateError, GetError};
@@ -17,8 +18,13 @@ impl<T: Clear> Room<T> {
     where
         T: Default,
     {
-        let begun = match self.lendable().and_then(|own| self.create_lent(own)) {
-            Some(begun) => begun?,
+        let here = Here::get();
+        // (No closure, which would be a function of its own.)
+        let begun = match self.lendable(here) {
+            Some(own) => match self.create_lent(here, own) {
+                Some(begun) => begun?,
+                None => Begun::by_parts(self.create_owned_apart())?,
+            },
             None => Begun::by_parts(self.create_owned_apart())?,
         };
         // SAFETY: the lane is lent to the handle, or has it as a user.
@@ -32,7 +38,7 @@ impl<T: Clear> Room<T> {
         T: Default,
     {
         let lendable = self.lendable_apart();
-        if let Some(created) = lendable.and_then(|own| self.create_lent(own)) {
+        if let Some(created) = lendable.and_then(|own| self.create_lent(Here::get(), own)) {
             return created;
         }
         match self.create_by_last(Joint::come) {
@@ -52,12 +58,13 @@ impl<T: Clear> Room<T> {
 
     #[inline(always)]
     pub(crate) fn get_owned(&self, key: Key) -> Result<Option<FarHeld<T>>, GetError> {
-        let held = match self.lendable() {
+        let here = Here::get();
+        let held = match self.lendable(here) {
             Some(own) => {
                 let Some(segment) = self.segment_with(key) else {
                     return Ok(None);
                 };
-                match self.get_lent(own, segment, key) {
+                match self.get_lent(here, own, segment, key) {
                     Some(held) => held,
                     None => self.get_owned_apart(key)?.map(Held::by_parts),
                 }
@@ -75,7 +82,7 @@ impl<T: Clear> Room<T> {
             return Ok(None);
         };
         let lendable = self.lendable_apart();
-        match lendable.and_then(|own| self.get_lent(own, segment, key)) {
+        match lendable.and_then(|own| self.get_lent(Here::get(), own, segment, key)) {
             Some(held) => Ok(held),
             None => self.by_shared(segment, |post| post.shared_get(key, Joint::come))?,
         }

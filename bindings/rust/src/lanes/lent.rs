@@ -4,7 +4,7 @@ use super::own::Own;
 use super::room::Room;
 use super::seat::Post;
 use super::segment::Segment;
-use super::threads::{self, Within};
+use super::threads::{self, Here, Within};
 use super::token::{Begun, Far, Held};
 use super::who::Caller;
 use crate::clear::Clear;
@@ -46,15 +46,15 @@ impl Lent {
     /// Whether this thread lends it. (It stays so as long as a handle is here.)
     #[inline(always)]
     fn is_lent_here(&self) -> bool {
-        self.word.load(Ordering::Relaxed) & !OUTLIVES == 2 * threads::lender()
+        self.word.load(Ordering::Relaxed) & !OUTLIVES == 2 * Here::get().lender()
     }
 
     /// This thread lends the lane, which it has alone. (The pool is borrowed meanwhile.)
     #[inline(always)]
-    fn begin(&self) {
+    fn begin(&self, here: Here) {
         debug_assert!(!self.is_lent(), "a lane is lent to one handle at a time");
         self.word
-            .store(2 * threads::lender_from_now_on(), Ordering::Relaxed);
+            .store(2 * here.lender_from_now_on(), Ordering::Relaxed);
     }
 
     /// The handle has ended. Whether it lets go of the pool's memory.
@@ -79,17 +79,17 @@ impl Lent {
 }
 
 impl<T: Clear> Room<T> {
-    /// The thread's lane, where it may be lent.
+    /// The lane of this thread, where it may be lent.
     #[inline(always)]
-    pub(super) fn lendable(&self) -> Option<Own<'_, T>> {
-        let own = self.known()?;
-        (threads::may_lend() && !threads::is_apart()).then_some(own)
+    pub(super) fn lendable(&self, here: Here) -> Option<Own<'_, T>> {
+        let own = self.known_to(here)?;
+        (here.may_lend() && !here.is_apart()).then_some(own)
     }
 
     /// The same where the thread isn't known to have a lane, or lends one.
     #[inline]
     pub(super) fn lendable_apart(&self) -> Option<Own<'_, T>> {
-        if threads::may_lend() {
+        if Here::get().may_lend() {
             self.look_for_lendable()
         } else {
             None
@@ -99,13 +99,14 @@ impl<T: Clear> Room<T> {
     #[cold]
     #[inline(never)]
     fn look_for_lendable(&self) -> Option<Own<'_, T>> {
-        if self.lends_yet().is_none() && threads::is_apart() {
+        let here = Here::get();
+        if self.lends_yet().is_none() && here.is_apart() {
             threads::forget_closed();
         }
-        if threads::is_apart() {
+        if here.is_apart() {
             threads::hold_back(WHILE_LENT);
         }
-        if !threads::may_lend() {
+        if !here.may_lend() {
             return None;
         }
         if threads::kept(self.id()).is_none() {
@@ -120,15 +121,16 @@ impl<T: Clear> Room<T> {
 
     /// The lane of this seat is lent to the handle that was made by it just now.
     #[inline(always)]
-    fn lend(&self, post: Post<'_, T>) {
-        post.seat().lent.begin();
-        threads::lend(self.id());
+    fn lend(&self, here: Here, post: Post<'_, T>) {
+        post.seat().lent.begin(here);
+        here.lend(self.id());
     }
 
     /// A create by the thread's own lane, which is lent to the handle. None where it may not be, or is full.
     #[inline(always)]
     pub(super) fn create_lent<'s>(
         &'s self,
+        here: Here,
         own: Own<'s, T>,
     ) -> Option<Result<Begun<'s, T, Far>, CreateError>>
     where
@@ -139,7 +141,7 @@ impl<T: Clear> Room<T> {
         }
         match own.create(create_apart) {
             Ok(begun) => {
-                self.lend(begun.post());
+                self.lend(here, begun.post());
                 Some(Ok(begun))
             }
             Err(CreateError::Full) => {
@@ -154,6 +156,7 @@ impl<T: Clear> Room<T> {
     #[inline(always)]
     pub(super) fn get_lent<'s>(
         &'s self,
+        here: Here,
         own: Own<'s, T>,
         segment: &'s Segment<T>,
         key: Key,
@@ -165,7 +168,7 @@ impl<T: Clear> Room<T> {
         }
         let held = own.try_get(key).ok()?;
         if held.is_some() {
-            self.lend(own.post());
+            self.lend(here, own.post());
         }
         Some(held)
     }
@@ -194,7 +197,7 @@ impl<T: Clear> Room<T> {
             return Some(number);
         }
         // SAFETY: no seat of the lane is lent any more.
-        unsafe { threads::take_back() };
+        unsafe { Here::get().take_back() };
         threads::hold_back(FOR_NOTHING);
         None
     }
@@ -262,7 +265,7 @@ impl<'s, T: Clear> Post<'s, T> {
     unsafe fn lent_ends(self, is_here: bool, is_kept: bool) {
         if is_here {
             // SAFETY: the caller's.
-            unsafe { threads::take_back() };
+            unsafe { Here::get().take_back() };
         }
         if is_kept {
             self.seat().lent.end_kept();

@@ -6,7 +6,7 @@ use super::room::Room;
 use super::seat::{Near, Post, Stands};
 use super::segment::Segment;
 use super::shared::NotShared;
-use super::threads::{self, Within};
+use super::threads::{self, Here, Within};
 use super::token::{Begun, By, Held, OfThread, Spend, Spent};
 use super::who::Caller;
 use crate::clear::Clear;
@@ -47,7 +47,7 @@ unsafe fn own_at_once<'s, T: Clear, P: Stands<'s, T>>(
     is_shared: bool,
 ) -> Option<Own<'s, T, P>> {
     // SAFETY: a thread that isn't apart keeps its lanes, and lends none.
-    (!is_shared && !threads::is_apart()).then(|| unsafe { Own::of(at) })
+    (!is_shared && !Here::get().is_apart()).then(|| unsafe { Own::of(at) })
 }
 
 impl<T: Clear> Room<T> {
@@ -240,7 +240,7 @@ impl<T: Clear> Room<T> {
             if self.lanes.is_shared(key.shard()) {
                 return self.clear_of_shared(here, key);
             }
-            return here.segment().has_to_clear(key) && here.clear(key);
+            return here.segment().has_to_return(key) && here.clear(key);
         }
         if here.segment().lacks(key) {
             return false;
@@ -285,14 +285,14 @@ impl<T: Clear> Room<T> {
         if !segment.has_to_clear(key) {
             return false;
         }
-        let Some((cleared, taken)) = segment.post(shard).try_shared_clear(key) else {
+        let shared = segment.post(shard);
+        // SAFETY: the thread has its own lane alone, of that segment.
+        let Some(cleared) = (unsafe { shared.try_shared_clear(own.post(), key) }) else {
             return own.clear(key);
         };
         self.frees_place(key);
         threads::set_last_shared(self.id(), shard);
-        if let Some(used) = taken {
-            own.let_go(used);
-        }
+        own.finish();
         cleared
     }
 }

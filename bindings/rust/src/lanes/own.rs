@@ -4,7 +4,7 @@ use super::room::Room;
 use super::seat::{Near, Post, Stands};
 use super::segment::Segment;
 use super::threads::Within;
-use super::token::{Begun, By, Held};
+use super::token::{Begun, By, Far, Held};
 use super::turn::Turn;
 use crate::clear::Clear;
 use crate::errors::{CreateError, GetError};
@@ -78,17 +78,6 @@ impl<'s, T: Clear, P: Stands<'s, T>> Own<'s, T, P> {
         // SAFETY: it took one out, which isn't apart.
         let place = unsafe { self.turn().taken_in_place() };
         self.empty(|| place.empty());
-    }
-
-    /// Empties an object of this segment that was taken out of use.
-    #[inline(always)]
-    pub(super) fn let_go(self, used: Used<'_, T>) {
-        match used {
-            Used::InPlace(place) if !self.turn().store().empties && !thread::panicking() => {
-                self.empty(|| place.empty());
-            }
-            used => let_go_apart(self.post(), used),
-        }
     }
 
     /// Empties an object, and those that wait then.
@@ -171,23 +160,27 @@ impl<'s, T: Clear, P: Stands<'s, T>> Own<'s, T, P> {
             // (By arms of its own, so that what isn't vacant stays in registers.)
             Some(begun) if begun.is_vacant() => Ok(fill(self.post(), begun)),
             Some(begun) => Ok(begun),
-            None => Begun::by_parts(self.create_behind(apart)),
+            None => match self.turn().has_chain().then(|| self.create_of_chain()) {
+                // SAFETY: it was created just now.
+                Some(Some((key, start))) => Ok(unsafe { self.turn().begun(key, start) }),
+                _ => Begun::by_parts(apart(self)),
+            },
         }
     }
 
-    /// A create where the lane's own list is empty: of a place that it took back, or apart.
+    /// A create of a place that the lane took back, if its list is empty: the key, and where the place stands. None where each such place's
+    /// object is being emptied.
     #[inline(never)]
-    fn create_behind<W: By<T>>(
-        self,
-        apart: impl FnOnce(Self) -> Result<Begun<'s, T, W>, CreateError>,
-    ) -> Result<Begun<'s, T, W>, CreateError>
+    fn create_of_chain(self) -> Option<(Key, u64)>
     where
         T: Default,
     {
-        match self.turn().create_at_hand() {
-            Some(begun) => Ok(self.filled(begun)),
-            None => apart(self),
-        }
+        let begun = self.turn().create_at_hand::<Far>()?;
+        let (_, key, start) = match begun.is_vacant() {
+            true => fill(self.post(), begun).into_words(),
+            false => begun.into_words(),
+        };
+        Some((key, start))
     }
 
     /// A create of this segment.
@@ -335,7 +328,7 @@ impl<'s, T: Clear, P: Stands<'s, T>> Own<'s, T, P> {
     pub(super) unsafe fn forget<W>(self, begun: Begun<'_, T, W>) {
         // SAFETY: the caller's.
         if let Some(object) = unsafe { self.turn().leave(begun) } {
-            self.let_go(Used::Apart(self.post().number(), object));
+            let_go_apart(self.post(), Used::Apart(self.post().number(), object));
         }
     }
 

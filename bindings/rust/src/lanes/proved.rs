@@ -6,7 +6,7 @@ use crate::erased::shardpool::{
     self, Census, CreateFault, Emptier, Filling, Lane, OpenFault, Pool, Ref,
 };
 use crate::object::Placed;
-use crate::shim::{self, Global, RowBlock};
+use crate::shim::{self, Global, RowBlock, Slots};
 use std::mem::{self, ManuallyDrop};
 use std::ptr::{self, NonNull};
 use std::slice;
@@ -41,36 +41,39 @@ impl<T> Opened<T> {
         }
     }
 
+    /// Likewise the word that leads on from it, once it is given back.
+    #[inline(always)]
+    pub(super) fn fetch_link(&self, start: u32) {
+        let grid = &self.pool.grid;
+        grid.table.shared.fetch_ahead(grid.links + start as usize);
+    }
+
     /// Its lanes, by their numbers.
     pub(super) fn lanes(&mut self) -> impl Iterator<Item = ProvedLane<T>> + '_ {
         self.row.drain()
     }
 
-    /// Closes it, with its lanes: they go into the row in which they came, so it takes no memory. Its objects go, each once, those of fillings
+    /// It ends, with its lanes: they go into the row in which they came, so it takes no memory. Its objects go, each once, those of fillings
     /// that were leaked too; where the drop of one panics, the others all the same.
-    pub(super) fn close(mut self, lanes: impl Iterator<Item = ProvedLane<T>>) -> Census {
+    pub(super) fn end(mut self, lanes: impl Iterator<Item = ProvedLane<T>>) -> Ended<T> {
         lanes.for_each(|lane| self.row.push_reserved(lane));
-        let closing = Closing(ManuallyDrop::new(self));
+        let ended = Ended(ManuallyDrop::new(self));
         if mem::needs_drop::<T>() {
-            closing.drop_objects();
+            Lanes(ended.0.row.iter()).drop_objects();
         }
-        ManuallyDrop::new(closing).end()
+        ended
     }
 }
 
-/// A pool that closes, also where the drop of an object panics.
-struct Closing<T>(ManuallyDrop<Opened<T>>);
+/// A pool whose objects are gone. Where it is dropped its memory is freed, and nobody looks what its places were.
+pub(super) struct Ended<T>(ManuallyDrop<Opened<T>>);
 
-impl<T> Closing<T> {
-    /// Drops what stands in the places of opened pages.
-    fn drop_objects(&self) {
-        Lanes(self.0.row.iter()).drop_objects();
-    }
-
-    /// Closes it, once.
-    fn end(&mut self) -> Census {
-        // SAFETY: the caller's.
-        let Opened { pool, row } = unsafe { ManuallyDrop::take(&mut self.0) };
+impl<T> Ended<T> {
+    /// Closes it: what its places were.
+    pub(super) fn close(self) -> Census {
+        let mut ended = ManuallyDrop::new(self);
+        // SAFETY: it is taken once, as nobody drops it.
+        let Opened { pool, row } = unsafe { ManuallyDrop::take(&mut ended.0) };
         let call = Call;
         let census = shardpool::close(pool, row);
         call.end();
@@ -78,9 +81,14 @@ impl<T> Closing<T> {
     }
 }
 
-impl<T> Drop for Closing<T> {
+impl<T> Drop for Ended<T> {
     fn drop(&mut self) {
-        self.end();
+        // SAFETY: it is taken once.
+        let Opened { pool, row } = unsafe { ManuallyDrop::take(&mut self.0) };
+        let (places, count) = (pool.grid.objects, pool.directory.count());
+        drop((pool, row));
+        // SAFETY: a directory that is dropped leaves the row of its places, which are so many, and nobody has one any more.
+        unsafe { Slots::from_raw_parts(places.ptr, count) }.free();
     }
 }
 

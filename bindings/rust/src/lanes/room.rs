@@ -89,6 +89,7 @@ impl Creates {
     }
 
     /// Whether a create passes the lane by.
+    #[inline]
     fn passes(&self) -> bool {
         let left = self.passed.load(Ordering::Relaxed);
         if left > 0 {

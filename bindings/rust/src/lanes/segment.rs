@@ -1,6 +1,6 @@
 //! A segment: a proved pool with its lanes.
 use super::hazard::{Apart, Hazard};
-use super::proved::{cell, Opened};
+use super::proved::{cell, Ended, Opened};
 use super::room::Room;
 use super::seat::{Near, Post, Seat};
 use super::who::first_bits;
@@ -208,6 +208,16 @@ impl<T: Clear> Segment<T> {
         matches!(self.sight_to_clear(key), Sight::There)
     }
 
+    /// The same of another lane's key, whose place goes back to that.
+    #[inline(always)]
+    pub(super) fn has_to_return(&self, key: Key) -> bool {
+        let sight = self.sight_behind(key, |start| {
+            self.proved.fetch_ahead(start, !T::plain().0);
+            self.proved.fetch_link(start);
+        });
+        matches!(sight, Sight::There)
+    }
+
     /// What loads tell of a key.
     #[inline(always)]
     pub(super) fn sight(&self, key: Key) -> Sight {
@@ -274,7 +284,21 @@ impl<T: Clear> Segment<T> {
 
     /// Closes the pool. No lane is out, for each borrows the pool, or has a share of it.
     pub(super) fn close(self) -> Census {
-        ManuallyDrop::new(self).end()
+        let mut segment = ManuallyDrop::new(self);
+        let untold = segment.untold();
+        let asides = if T::plain().0 {
+            0
+        } else {
+            segment.end_asides()
+        };
+        // SAFETY: it is forgotten.
+        let (ended, rest) = unsafe { segment.end() };
+        let mut census = Census::from(ended.close());
+        drop(rest);
+        census.unopened -= untold;
+        census.filling -= asides;
+        census.free += asides;
+        census
     }
 
     /// The places of fillings that were set aside are back for the close: how many.
@@ -297,11 +321,13 @@ impl<T: Clear> Segment<T> {
         count
     }
 
-    /// What a close does, once.
-    fn end(&mut self) -> Census {
-        let untold = self.untold();
-        let asides = if T::plain().0 { 0 } else { self.end_asides() };
-        // SAFETY: taken once: by `close`, which forgets the pool, or by its drop.
+    /// Ends the proved pool, whose objects go. What is beside it is to go behind it.
+    ///
+    /// # Safety
+    ///
+    /// Nothing is done with the segment any more.
+    unsafe fn end(&mut self) -> (Ended<T>, impl Sized) {
+        // SAFETY: taken once, as the caller says.
         let (proved, mut seats, rest) = unsafe {
             let hazards = ManuallyDrop::take(&mut self.hazards);
             let apart = ManuallyDrop::take(&mut self.apart);
@@ -313,18 +339,16 @@ impl<T: Clear> Segment<T> {
         };
         // SAFETY: taken once, as above.
         let lanes = seats.iter_mut().map(|seat| unsafe { seat.take_lane() });
-        let census = proved.close(lanes);
-        drop((rest, seats));
-        let mut census = Census::from(census);
-        census.unopened -= untold;
-        census.filling -= asides;
-        census.free += asides;
-        census
+        let ended = proved.end(lanes);
+        (ended, (rest, seats))
     }
 }
 
 impl<T: Clear> Drop for Segment<T> {
     fn drop(&mut self) {
-        self.end();
+        // SAFETY: this is the last that is done with it.
+        let (ended, rest) = unsafe { self.end() };
+        drop(ended);
+        drop(rest);
     }
 }

@@ -163,9 +163,15 @@ impl<'s, T: Clear> Post<'s, T> {
         Ok(cleared)
     }
 
-    /// The same, where nobody has the lock now: it doesn't wait. What comes back is to be emptied by the caller.
-    pub(super) fn try_shared_clear(self, key: Key) -> Option<(bool, Option<Used<'s, T>>)> {
-        self.try_shared(|turn, _| (turn.clear(key), turn.taken()))
+    /// The same, where nobody has the lock now: it doesn't wait. What it takes out is for the lane `by` to empty.
+    ///
+    /// # Safety
+    ///
+    /// The thread has that lane alone, of the same segment.
+    #[inline(always)]
+    pub(super) unsafe fn try_shared_clear(self, by: Post<'s, T>, key: Key) -> Option<bool> {
+        // SAFETY: the caller's.
+        self.try_shared(|turn, _| unsafe { turn.clear_for(by, key) })
     }
 
     /// Empties what a call took out, without the lock.

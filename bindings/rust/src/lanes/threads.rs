@@ -19,9 +19,7 @@ struct Kept(RefCell<Vec<Entry>>);
 
 impl Drop for Kept {
     fn drop(&mut self) {
-        LENT.set(ENDED);
-        LENDER.set(0);
-        LAST.with(|all| all.iter().for_each(|one| one.set(NONE)));
+        Here::get().end();
         for Entry { number, homes, .. } in self.0.take() {
             homes.leave(number);
         }
@@ -45,61 +43,169 @@ const NONE: (u64, NonNull<()>) = (0, NonNull::dangling());
 /// In the number of an entry's pool: the thread lends its lane.
 const LENDS: u64 = 1 << 63;
 
-/// In `LENT`: the thread lends no lane; and it has left its lanes.
+/// In `lent`: the thread lends no lane; and it has left its lanes.
 const NONE_LENT: u64 = 0;
 const ENDED: u64 = u64::MAX;
 
-/// In `HELD_BACK`: a call is under way in which code of others runs, and which has the thread's lane to itself before and after.
+/// In `held_back`: a call is under way in which code of others runs, and which has the thread's lane to itself before and after.
 const WITHIN: u64 = 1 << 32;
 
-/// In `HELD_BACK`, below that: how many handles are to end.
+/// In `held_back`, below that: how many handles are to end.
 const TO_END: u64 = WITHIN - 1;
 
 /// A thread lends no lane before so many owned handles have ended there, and never waits for more.
 const FIRST_HELD_BACK: u64 = 16;
 const MOST_HELD_BACK: u64 = 4096;
 
-thread_local! {
+/// What most calls look at. (Side by side, so that a call finds it once.)
+struct Notes {
     /// By the last digits of a pool's number: the pool, and where the seat stands of the thread's lane that had a place last. The number
     /// with each bit turned over, where it found none, and shares; with one more, where it lends its lane.
-    static LAST: [Cell<(u64, NonNull<()>)>; POOLS] = const { [const { Cell::new(NONE) }; POOLS] };
-    /// Likewise: the pool, and the number of the shared lane that the thread called last.
-    static LAST_SHARED: [Cell<(u64, u32)>; POOLS] = const { [const { Cell::new((0, 0)) }; POOLS] };
+    last: [Cell<(u64, NonNull<()>)>; POOLS],
     /// The pool of which the thread lends its lane: one at a time. Or that it lends none, or has left its lanes.
-    static LENT: Cell<u64> = const { Cell::new(NONE_LENT) };
+    lent: Cell<u64>,
     /// How many owned handles are to end on the thread before it lends a lane again. (It may be that they end elsewhere.)
-    static HELD_BACK: Cell<u64> = const { Cell::new(FIRST_HELD_BACK) };
+    held_back: Cell<u64>,
+    /// A number of the thread's own, by which it lends lanes; 0 before and after.
+    lender: Cell<u64>,
+}
+
+thread_local! {
+    static NOTES: Notes = const {
+        Notes {
+            last: [const { Cell::new(NONE) }; POOLS],
+            lent: Cell::new(NONE_LENT),
+            held_back: Cell::new(FIRST_HELD_BACK),
+            lender: Cell::new(0),
+        }
+    };
+    /// By the last digits of a pool's number: the pool, and the number of the shared lane that the thread called last.
+    static LAST_SHARED: [Cell<(u64, u32)>; POOLS] = const { [const { Cell::new((0, 0)) }; POOLS] };
     /// How many of its calls owned handles have hindered since it left a lane to one.
     static HINDERED: Cell<u32> = const { Cell::new(0) };
-    /// A number of the thread's own, by which it lends lanes; 0 before and after.
-    static LENDER: Cell<u64> = const { Cell::new(0) };
     /// Which of the shared lanes is the thread's first choice.
     static TURN: Cell<u32> = const { Cell::new(0) };
     static KEPT: Kept = const { Kept(RefCell::new(Vec::new())) };
 }
 
-/// Where the seat stands of the thread's lane of this pool that had a place last; if that is known.
-#[inline(always)]
-pub(super) fn last(pool: u64) -> Option<NonNull<()>> {
-    let (last, at) = LAST.with(|all| all[entry_of(pool)].get());
-    (last == pool).then_some(at)
+/// The notes of the thread, which alone has this. (So a call that turns to them several times looks for them once.)
+#[derive(Clone, Copy)]
+pub(super) struct Here(NonNull<Notes>);
+
+impl Here {
+    #[inline(always)]
+    pub(super) fn get() -> Here {
+        NOTES.with(|notes| Here(NonNull::from(notes)))
+    }
+
+    #[inline(always)]
+    fn notes(&self) -> &Notes {
+        // SAFETY: they are this thread's, as this isn't sent, and have no drop, so that they are there as long as it.
+        unsafe { self.0.as_ref() }
+    }
+
+    /// The thread leaves its lanes.
+    fn end(self) {
+        let Notes {
+            last, lent, lender, ..
+        } = self.notes();
+        lent.set(ENDED);
+        lender.set(0);
+        last.iter().for_each(|one| one.set(NONE));
+    }
+
+    #[inline(always)]
+    fn entry(&self, pool: u64) -> &Cell<(u64, NonNull<()>)> {
+        &self.notes().last[entry_of(pool)]
+    }
+
+    /// Where the seat stands of the thread's lane of this pool that had a place last; if that is known.
+    #[inline(always)]
+    pub(super) fn last(self, pool: u64) -> Option<NonNull<()>> {
+        let (last, at) = self.entry(pool).get();
+        (last == pool).then_some(at)
+    }
+
+    /// Whether the thread has left its lanes, or lends one of them.
+    #[inline(always)]
+    pub(super) fn is_apart(self) -> bool {
+        self.notes().lent.get() != NONE_LENT
+    }
+
+    /// Whether it may lend a lane now, if it lends none.
+    #[inline(always)]
+    pub(super) fn may_lend(self) -> bool {
+        self.notes().held_back.get() == 0
+    }
+
+    /// What holds it back is this from now on.
+    #[inline(always)]
+    fn hold_back(self, from: impl FnOnce(u64) -> u64) {
+        let held_back = &self.notes().held_back;
+        held_back.set(from(held_back.get()));
+    }
+
+    /// A number of the thread's own, from 1 on; 0 as long as it lent no lane.
+    #[inline(always)]
+    pub(super) fn lender(self) -> u64 {
+        self.notes().lender.get()
+    }
+
+    /// The same, where it lends one.
+    #[inline(always)]
+    pub(super) fn lender_from_now_on(self) -> u64 {
+        if self.lender() == 0 {
+            be_lender();
+        }
+        self.lender()
+    }
+
+    /// The thread lends its lane of this pool, which it has alone. It lends no other.
+    #[inline(always)]
+    pub(super) fn lend(self, pool: u64) {
+        self.notes().lent.set(pool);
+        self.mark(pool, pool | LENDS);
+    }
+
+    /// The lane that the thread lends is its own again.
+    ///
+    /// # Safety
+    ///
+    /// The handle to which it is lent has ended, but for telling the lane so.
+    #[inline(always)]
+    pub(super) unsafe fn take_back(self) {
+        let pool = self.notes().lent.replace(NONE_LENT);
+        debug_assert_ne!(pool, NONE_LENT, "the thread lends a lane");
+        self.mark(pool | LENDS, pool);
+    }
+
+    /// An entry with the first number has the other one from now on. (An entry of another pool stays: code that ran meanwhile may have called
+    /// that.)
+    #[inline(always)]
+    fn mark(self, from: u64, to: u64) {
+        let entry = self.entry(from);
+        let (last, at) = entry.get();
+        if last == from {
+            entry.set((to, at));
+        }
+    }
 }
 
 /// Whether the thread found no lane of this pool, and shares; if that is known.
 pub(super) fn shares(pool: u64) -> bool {
-    LAST.with(|all| all[entry_of(pool)].get()).0 == !pool
+    Here::get().entry(pool).get().0 == !pool
 }
 
 /// # Safety
 ///
 /// The thread keeps the lane of this seat, in the pool of this number.
 pub(super) unsafe fn set_last(pool: u64, at: NonNull<()>) {
-    LAST.with(|all| all[entry_of(pool)].set((pool, at)));
+    Here::get().entry(pool).set((pool, at));
 }
 
 /// The thread has no lane of this pool.
 pub(super) fn set_shares(pool: u64) {
-    LAST.with(|all| all[entry_of(pool)].set((!pool, NONE.1)));
+    Here::get().entry(pool).set((!pool, NONE.1));
 }
 
 /// The shared lane of this pool that the thread called last, where that is known.
@@ -122,49 +228,12 @@ pub(super) fn unset_last_shared(pool: u64) {
 /// Whether the thread has left its lanes: it runs the last drops of its thread-locals.
 #[inline(always)]
 pub(super) fn has_ended() -> bool {
-    LENT.get() == ENDED
-}
-
-/// Whether it has, or lends one of them.
-#[inline(always)]
-pub(super) fn is_apart() -> bool {
-    LENT.get() != NONE_LENT
+    Here::get().notes().lent.get() == ENDED
 }
 
 /// Whether it lends its lane of this pool, as far as it knows.
 pub(super) fn lends(pool: u64) -> bool {
-    LENT.get() == pool
-}
-
-/// The thread lends its lane of this pool, which it has alone. It lends no other.
-#[inline(always)]
-pub(super) fn lend(pool: u64) {
-    LENT.set(pool);
-    mark(pool, pool | LENDS);
-}
-
-/// An entry with the first number has the other one from now on. (An entry of another pool stays: code that ran meanwhile may have called that.)
-#[inline(always)]
-fn mark(from: u64, to: u64) {
-    LAST.with(|all| {
-        let entry = &all[entry_of(from)];
-        let (last, at) = entry.get();
-        if last == from {
-            entry.set((to, at));
-        }
-    });
-}
-
-/// The lane that the thread lends is its own again.
-///
-/// # Safety
-///
-/// The handle to which it is lent has ended, but for telling the lane so.
-#[inline(always)]
-pub(super) unsafe fn take_back() {
-    let pool = LENT.replace(NONE_LENT);
-    debug_assert_ne!(pool, NONE_LENT, "the thread lends a lane");
-    mark(pool | LENDS, pool);
+    Here::get().notes().lent.get() == pool
 }
 
 /// The thread has no lane of a pool that is closed any more, and lends none.
@@ -175,38 +244,17 @@ pub(super) fn forget_closed() {
 
 /// The handle to which the thread lends a lane has that by lock from now on, also here.
 fn lend_no_more() {
-    LENT.set(NONE_LENT);
+    Here::get().notes().lent.set(NONE_LENT);
     be_lender();
-}
-
-/// A number of the thread's own, from 1 on; 0 as long as it lent no lane.
-#[inline(always)]
-pub(super) fn lender() -> u64 {
-    LENDER.get()
-}
-
-/// The same, where it lends one.
-#[inline(always)]
-pub(super) fn lender_from_now_on() -> u64 {
-    if LENDER.get() == 0 {
-        be_lender();
-    }
-    LENDER.get()
-}
-
-/// Whether the thread may lend a lane now, if it lends none.
-#[inline(always)]
-pub(super) fn may_lend() -> bool {
-    HELD_BACK.get() == 0
 }
 
 /// An owned handle ended on the thread.
 #[inline(always)]
 pub(super) fn handle_ended() {
-    let held_back = HELD_BACK.get();
-    if held_back & TO_END != 0 {
-        HELD_BACK.set(held_back - 1);
-    }
+    Here::get().hold_back(|before| match before & TO_END {
+        0 => before,
+        _ => before - 1,
+    });
 }
 
 /// The thread has another number.
@@ -214,14 +262,16 @@ pub(super) fn handle_ended() {
 fn be_lender() {
     // (Not the explorer's: which number it is makes no difference.)
     static NEXT: AtomicU64 = AtomicU64::new(1);
-    LENDER.set(NEXT.fetch_add(1, Ordering::Relaxed));
+    let number = NEXT.fetch_add(1, Ordering::Relaxed);
+    Here::get().notes().lender.set(number);
 }
 
 /// The thread lends no lane before so many more owned handles have ended there.
 pub(super) fn hold_back(more: u64) {
-    let held_back = HELD_BACK.get();
-    let to_end = (held_back & TO_END) + more;
-    HELD_BACK.set(held_back & !TO_END | to_end.min(MOST_HELD_BACK));
+    Here::get().hold_back(|before| {
+        let to_end = (before & TO_END) + more;
+        before & !TO_END | to_end.min(MOST_HELD_BACK)
+    });
 }
 
 /// A lane that the thread lends hinders one of its calls. How many there were.
@@ -234,35 +284,37 @@ pub(super) fn hinder() -> u32 {
 #[cfg(pardz_explore)]
 pub fn lends_after(handles: u64) {
     lend_no_more();
-    HELD_BACK.set(handles);
+    Here::get().notes().held_back.set(handles);
     HINDERED.set(0);
 }
 
 /// Nothing holds the thread back that lends.
 #[cfg(pardz_explore)]
 pub fn lends_still() {
-    HELD_BACK.set(0);
+    Here::get().notes().held_back.set(0);
 }
 
 /// Code of others runs within a call that has the thread's lane to itself before and after: until this is dropped the thread lends none.
 pub(super) struct Within(());
 
 impl Within {
+    #[inline]
     pub(super) fn new() -> Within {
-        HELD_BACK.set(HELD_BACK.get() + WITHIN);
+        Here::get().hold_back(|before| before + WITHIN);
         Within(())
     }
 }
 
 impl Drop for Within {
+    #[inline]
     fn drop(&mut self) {
-        HELD_BACK.set(HELD_BACK.get() - WITHIN);
+        Here::get().hold_back(|before| before - WITHIN);
     }
 }
 
 /// Whether such a call is under way.
 pub(super) fn is_within() -> bool {
-    HELD_BACK.get() >= WITHIN
+    Here::get().notes().held_back.get() >= WITHIN
 }
 
 /// The lane of a pool that the thread has.
@@ -308,7 +360,7 @@ pub(super) fn keep(pool: u64, number: Number, homes: &Counted<Homes>) -> Result<
 pub(super) unsafe fn leave(pool: u64) {
     lend_no_more();
     HINDERED.set(0);
-    LAST.with(|all| all[entry_of(pool)].set(NONE));
+    Here::get().entry(pool).set(NONE);
     let left = KEPT.try_with(|kept| kept.take(|entry| entry.pool == pool));
     if let Ok(Some(Entry { number, homes, .. })) = left {
         homes.leave(number);

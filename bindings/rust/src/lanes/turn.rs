@@ -1,5 +1,5 @@
 //! The calls of the proved pool. None runs code of others: what that is to empty comes back.
-use super::emptying::Emptying;
+use super::emptying::{Emptying, EmptyingBy};
 use super::hazard::{Hazard, InPlace, Used};
 use super::proved::{self, cell, Opened, Parts, ProvedLane};
 use super::seat::{Post, Stands, Store};
@@ -236,6 +236,12 @@ impl<'s, T: Clear, P: Stands<'s, T>> Turn<'s, T, P> {
         self.create_if(|lane| lane.state.free.len() > 0)
     }
 
+    /// Whether the lane has places that others returned and it took back.
+    #[inline(always)]
+    pub(super) fn has_chain(&mut self) -> bool {
+        self.lane().state.free.chain().is_some()
+    }
+
     /// A create of a place at hand. None where there is none.
     #[inline(always)]
     pub(super) fn create_at_hand<W: By<T>>(&mut self) -> Option<Begun<'s, T, W>>
@@ -312,6 +318,20 @@ impl<'s, T: Clear, P: Stands<'s, T>> Turn<'s, T, P> {
             Some(object) => Begun::new(post, of, object, way),
             None => Begun::vacant(post, of, place, way),
         }
+    }
+
+    /// A filling of this key, whose place stands there and has an object.
+    ///
+    /// # Safety
+    ///
+    /// A create of this lane gave it, and that filling is spent.
+    #[inline(always)]
+    pub(super) unsafe fn begun<W: By<T>>(&mut self, key: Key, start: u64) -> Begun<'s, T, W> {
+        // SAFETY: the caller's.
+        let object = unsafe { self.place(start as u32).as_ref().address() };
+        let (post, way) = (self.post(), W::of(self.at.segment()));
+        // SAFETY: as above.
+        unsafe { Begun::from_words(post, (object, key, start), way) }
     }
 
     /// What a filling that ends is made of.
@@ -441,6 +461,18 @@ impl<'s, T: Clear, P: Stands<'s, T>> Turn<'s, T, P> {
     pub(super) fn clear(&mut self, key: Key) -> bool {
         // SAFETY: for the call below.
         let emptier = unsafe { self.emptier(key) };
+        self.clear_with(key, emptier)
+    }
+
+    /// The same, for another lane of the segment, which empties what that takes out.
+    ///
+    /// # Safety
+    ///
+    /// The thread has that lane alone, which isn't used meanwhile.
+    #[inline(always)]
+    pub(super) unsafe fn clear_for(&mut self, by: Post<'s, T>, key: Key) -> bool {
+        // SAFETY: for the call below; and the caller's.
+        let emptier = unsafe { EmptyingBy::of(self.emptier(key), by) };
         self.clear_with(key, emptier)
     }
 

@@ -7,7 +7,7 @@ use super::own::Own;
 use super::room::Room;
 use super::seat::Post;
 use super::segment::Segment;
-use super::threads;
+use super::threads::{self, Here};
 use crate::clear::Clear;
 use crate::erased::keybits::MOST_LANES;
 use crate::errors::{MemoryRefused, OpenError};
@@ -185,7 +185,13 @@ impl<T: Clear> Room<T> {
     /// The thread's lane, where it had a place last; if that is known.
     #[inline(always)]
     pub(super) fn known(&self) -> Option<Own<'_, T>> {
-        let seat = threads::last(self.id())?;
+        self.known_to(Here::get())
+    }
+
+    /// The same, with the notes of the thread at hand.
+    #[inline(always)]
+    pub(super) fn known_to(&self, here: Here) -> Option<Own<'_, T>> {
+        let seat = here.last(self.id())?;
         // SAFETY: `set_last` was told that the thread keeps the lane of this seat, of the pool of this number, which is borrowed. Where
         // the thread has left it, it isn't found here any more.
         let post = unsafe { Post::at(seat.cast()) };

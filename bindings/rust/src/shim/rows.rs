@@ -425,7 +425,7 @@ impl<T> Slots<T> {
         self.count
     }
 
-    pub(super) fn free(self) {
+    pub(crate) fn free(self) {
         // SAFETY: each row comes of memory for so many, and is freed by value, so once.
         unsafe { free(self.at, self.count) };
     }

@@ -171,6 +171,7 @@ impl<T: Clear> Pool<T> {
     }
 
     /// Follows the taken chain: its first place, with its cell. None where no taken place is still to be followed.
+    #[inline(always)]
     fn follow(&self, lane: &mut Lane<T>) -> Option<(Spot, Whole<T>)> {
         let first = lane.state.free.chain()?;
         let spot = self.grid.spot(first.number());
@@ -241,6 +242,7 @@ pub(crate) fn collect<T: Clear>(grid: &Grid<T>, hand: &mut Hand<T>, lane: u32) -
 
 /// FOLLOW of the first place of the taken chain, and OUT of its object, which rested there. Answers the place's link
 /// word, which leads to the next place, or is 0 at the chain's end; and the object. It takes no memory.
+#[inline(always)]
 pub(crate) fn follow<T: Clear>(
     grid: &Grid<T>,
     hand: &mut Hand<T>,
@@ -253,6 +255,7 @@ pub(crate) fn follow<T: Clear>(
 
 /// A look at the generation of a place of the lane's shard that is with it: answers the key under which it may then
 /// be published. It takes no memory.
+#[inline(always)]
 pub(crate) fn next_key<T: Clear>(grid: &Grid<T>, hand: &mut Hand<T>, spot: Spot) -> u64 {
     let generation = grid.generation(hand, spot);
     let place = Place::of_number(spot.place);
