@@ -11,6 +11,7 @@ use std::time::Duration;
 
 mod c_library;
 mod calls;
+mod changing;
 mod checks;
 mod clears;
 mod growing;
@@ -48,6 +49,7 @@ fn all() -> Vec<Scenario> {
         lent::all(),
         owned::all(),
         growing::all(),
+        changing::all(),
         wider::all(),
         pools::all(),
         clears::all(),

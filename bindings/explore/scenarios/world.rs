@@ -225,6 +225,11 @@ impl World {
         self.lanes.clear();
     }
 
+    /// The first of them does.
+    pub fn leave_first(&self) {
+        drop(self.lanes[0].lock().expect("no panic").take());
+    }
+
     /// Does something by a lane in hand.
     pub fn by_lane(&self, number: usize, with: impl FnOnce(&Lane<'_, Tracked>)) {
         let lane = self.lanes[number].lock().expect("no panic").take();

@@ -13,7 +13,8 @@ use std::sync::Arc;
 /// The right of one thread at a time to call a pool. It may move to another thread (`Send`), and isn't shared (not `Sync`): a
 /// thread takes a lane of its own.
 ///
-/// A lane may have 1,048,575 references at once in each segment. It comes home to its pool when it is dropped.
+/// A lane may have 1,048,575 references at once in each segment. It comes home to its pool when it is dropped; and so do the further lanes
+/// that it may take in a large pool that [grows](Pool::growing).
 ///
 /// ```
 /// use pardz::{Pool, Shape};

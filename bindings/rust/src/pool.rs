@@ -242,9 +242,12 @@ impl<T: Clear> Pool<T> {
     /// thread that finds none has a segment with 32 lanes opened, and later one with 64, which threads keep as well: calls of theirs for
     /// keys of segments before turn to shared lanes.
     ///
-    /// Where a create finds no place in shared lanes either, and the next segment would be the sixth or a later one, lanes that nobody has
-    /// are lent to all first, but for four: who wants a lane takes one back, unless a filling, a reference or an owned handle is of it just
-    /// then. Its segments have the tags from 0 on; it has 16 * 32 places with the first, and 16 * 64, 192 and 960 more with those
+    /// Where the next segment would be the sixth or a later one, lanes that nobody has are used first. A thread whose lane is full leaves it
+    /// to be shared, and has another one, unless it has a filling or a reference of it; or one is lent to all, where the shared lanes are
+    /// full too. Four are left: and who wants a lane takes a shared one back, unless a filling, a reference or an owned handle is of it just
+    /// then. A [`Lane`] in hand that is full takes up to three further ones, as long as eight are left, and has them until it is dropped.
+    ///
+    /// Its segments have the tags from 0 on; it has 16 * 32 places with the first, and 16 * 64, 192 and 960 more with those
     /// that follow, then 16 * 12,224 with each of twelve, and 16 * 44,992 with each later one, or a few more where they have more lanes. One that is opened for the sake of its lanes has 16 * 960 at most.
     ///
     /// # Errors

@@ -2,9 +2,10 @@
 mod common;
 
 use common::{alone, at_once, ALONE};
-use pardz::{Key, Lane, Pool, Shape};
+use pardz::{Clear, Key, Lane, Pool, Shape};
 use std::alloc::{GlobalAlloc, Layout, System};
 use std::cell::{Cell, OnceCell};
+use std::panic::{self, AssertUnwindSafe};
 use std::sync::atomic::{AtomicUsize, Ordering::SeqCst};
 use std::sync::{Arc, OnceLock};
 use std::{env, mem, ptr};
@@ -19,6 +20,8 @@ thread_local! {
     /// What the hook does on this thread, but within itself.
     static HOOK: Cell<fn()> = const { Cell::new(|| ()) };
     static LANE: OnceCell<Lane<'static, String>> = const { OnceCell::new() };
+    /// Whether memory is refused.
+    static REFUSES: Cell<bool> = const { Cell::new(false) };
 }
 
 static HOOKED: AtomicUsize = AtomicUsize::new(0);
@@ -38,6 +41,9 @@ fn hooked() {
 unsafe impl GlobalAlloc for Hooked {
     unsafe fn alloc(&self, layout: Layout) -> *mut u8 {
         hooked();
+        if REFUSES.get() {
+            return ptr::null_mut();
+        }
         BLOCKS.fetch_add(1, SeqCst);
         // SAFETY: the caller keeps what `System` asks.
         unsafe { System.alloc(layout) }
@@ -45,6 +51,9 @@ unsafe impl GlobalAlloc for Hooked {
 
     unsafe fn alloc_zeroed(&self, layout: Layout) -> *mut u8 {
         hooked();
+        if REFUSES.get() {
+            return ptr::null_mut();
+        }
         BLOCKS.fetch_add(1, SeqCst);
         // SAFETY: the caller keeps what `System` asks.
         unsafe { System.alloc_zeroed(layout) }
@@ -230,6 +239,90 @@ fn a_hook_creates_while_a_segment_opens() {
     });
 }
 
+fn tag_of(key: Key) -> u64 {
+    u64::from(key) >> 56
+}
+
+fn lane_of(key: Key) -> u64 {
+    u64::from(key) >> 16 & 0xff
+}
+
+/// While a thread whose lane is full opens a segment its hook creates without memory for one: it keeps that lane, which has the first place of
+/// the new segment then.
+#[test]
+fn a_hook_finds_no_memory_while_a_segment_opens() {
+    static GROWING: OnceLock<Pool<String>> = OnceLock::new();
+    fn creates() {
+        REFUSES.set(true);
+        let created = GROWING.get().expect("it is set").create();
+        let key = created.map(|filling| filling.publish());
+        REFUSES.set(false);
+        assert!(
+            lane_of(key.expect("a place")) >= 12,
+            "a lane that all share"
+        );
+        HOOKED.fetch_add(1, SeqCst);
+    }
+    alone("a_hook_finds_no_memory_while_a_segment_opens", || {
+        let pool = GROWING.get_or_init(|| Pool::growing().unwrap());
+        // (Of twelve lanes more than four stay at home; and as many are had that a segment is opened at once.)
+        let lanes: Vec<_> = (0..4).map_while(|_| pool.lane()).collect();
+        let publish = |_| pool.create().unwrap().publish();
+        let keys: Vec<_> = (0..32 + 64 + 192 + 960 + 12_224).map(publish).collect();
+        let own = lane_of(keys[0]);
+        assert!(keys.iter().all(|key| lane_of(*key) == own));
+        HOOK.set(creates);
+        let created = pool.create();
+        HOOK.set(|| ());
+        let key = created.unwrap().publish();
+        assert_eq!((tag_of(key), lane_of(key)), (5, own));
+        assert!(HOOKED.load(SeqCst) > 0 && lanes.len() == 4);
+    });
+}
+
+/// An object that is let go of while the thread unwinds waits in memory of its own. The hook, which is asked for that, has no lane lent to it.
+#[test]
+fn a_hook_creates_while_an_object_waits() {
+    #[derive(Default)]
+    struct Text(String);
+    impl Clear for Text {
+        fn clear(&mut self) {
+            self.0.clear();
+        }
+    }
+    static TEXTS: OnceLock<Pool<Text>> = OnceLock::new();
+    fn creates() {
+        let pool = TEXTS.get().expect("it is set");
+        let key = pool.create_owned().expect("a place").publish();
+        assert!(lane_of(key) >= 12, "a lane that all share");
+        HOOKED.fetch_add(1, SeqCst);
+    }
+    alone("a_hook_creates_while_an_object_waits", || {
+        let pool = TEXTS.get_or_init(|| Pool::growing().unwrap());
+        let key = pool.create().unwrap().publish();
+        // (A thread lends its lane once so many handles have ended there.)
+        (0..100).for_each(|_| drop(pool.create_owned().unwrap()));
+        assert_eq!(lane_of(pool.create_owned().unwrap().key()), lane_of(key));
+        let unwinds = panic::catch_unwind(AssertUnwindSafe(|| {
+            let _clears = OnDrop(|| {
+                HOOK.set(creates);
+                assert!(pool.clear(key));
+                HOOK.set(|| ());
+            });
+            panic::resume_unwind(Box::new(()));
+        }));
+        assert!(unwinds.is_err() && HOOKED.load(SeqCst) > 0);
+    });
+}
+
+struct OnDrop<F: FnMut()>(F);
+
+impl<F: FnMut()> Drop for OnDrop<F> {
+    fn drop(&mut self) {
+        (self.0)();
+    }
+}
+
 /// While a thread opens a segment its hook opens that one, and another one: each is there once.
 #[test]
 fn a_hook_opens_segments_while_one_opens() {
@@ -241,9 +334,6 @@ fn a_hook_opens_segments_while_one_opens() {
             let key = keys.find(|key| tag_of(*key) == 2);
             assert!(pool.clear(key.expect("it grows")));
         }
-    }
-    fn tag_of(key: Key) -> u64 {
-        u64::from(key) >> 56
     }
     alone("a_hook_opens_segments_while_one_opens", || {
         let pool = GROWING.get_or_init(|| Pool::growing().unwrap());
@@ -271,6 +361,30 @@ fn a_hook_calls_while_a_thread_keeps_lanes() {
         for pool in &pools {
             assert!(pool.lane().is_some(), "its lane came home");
         }
+    });
+}
+
+/// The same, where the hook's call of the pool keeps a lane of it: the thread has that one alone.
+#[test]
+fn a_hook_keeps_a_lane_while_its_thread_does() {
+    static GROWING: OnceLock<Pool<String>> = OnceLock::new();
+    fn keeps() {
+        let pool = GROWING.get().expect("it is set");
+        let key = pool.create().unwrap().publish();
+        assert!(pool.clear(key));
+        HOOKED.fetch_add(1, SeqCst);
+    }
+    alone("a_hook_keeps_a_lane_while_its_thread_does", || {
+        let pool = GROWING.get_or_init(|| Pool::growing().unwrap());
+        drop(pool.lane());
+        at_once([|| {
+            HOOK.set(keeps);
+            let created = pool.create();
+            HOOK.set(|| ());
+            assert!(pool.clear(created.unwrap().publish()) && HOOKED.load(SeqCst) > 0);
+            let others: Vec<_> = (0..13).map_while(|_| pool.lane()).collect();
+            assert_eq!(others.len(), 11);
+        }]);
     });
 }
 
@@ -366,8 +480,7 @@ fn a_hook_calls_while_a_thread_leaves_its_lanes() {
         let pool = LEFT.get().expect("it is set");
         let Some(lane) = pool.lane() else { return };
         let key = pool.put("by the hook").expect("a place");
-        let number = u64::from(key) >> 16 & 0xff;
-        assert_ne!(number, u64::from(lane.number()), "a lane that it left");
+        assert_ne!(lane_of(key), lane.number().into(), "a lane that it left");
         assert!(lane.clear(key));
         HOOKED.fetch_add(1, SeqCst);
     }

@@ -17,6 +17,11 @@ fn fill(pool: &Pool<Number>, count: u64) -> Vec<Key> {
     (0..count).map(|number| put(pool, number)).collect()
 }
 
+/// How many objects a thread has when so many lanes of its own are full in five segments, and those four in four of them.
+fn full_lanes(count: u32) -> u64 {
+    u64::from(count * PLACES[5] + 4 * PLACES[4])
+}
+
 fn lanes_of(keys: &[Key]) -> BTreeSet<u64> {
     keys.iter().copied().map(lane_of).collect()
 }
@@ -63,12 +68,13 @@ fn a_thread_that_turns_to_shared_lanes_again_and_again() {
 fn a_later_segment_is_opened_for_want_of_places_alone() {
     let _limit = limit();
     let pool = growing();
-    let mut keys = fill(
-        &pool,
-        u64::from(5 * PLACES[4] + (PLACES[5] - PLACES[4])) + 500,
-    );
+    let mut keys = fill(&pool, full_lanes(1));
     assert_eq!(segments(&pool), 5);
-    let (own, last) = (lane_of(keys[0]), keys.len() - 500);
+    let own = lane_of(keys[0]);
+    // (As long as the thread has a reference it keeps its lane.)
+    let _held = pool.get(keys[0]).expect("published");
+    let last = keys.len();
+    keys.extend(fill(&pool, 500));
     assert!(!lanes_of(&keys[last..]).contains(&own));
     churn(&pool, &mut keys[last..], 200_000);
     assert_eq!(segments(&pool), 5);
@@ -104,6 +110,90 @@ fn lanes_at_home_are_lent_before_a_later_segment_is_opened() {
     all.extend(hands.iter().map(|hand| u64::from(hand.number())));
     let different: BTreeSet<u64> = all.iter().copied().collect();
     assert_eq!((all.len(), different), (17, (0..16).collect()));
+}
+
+/// A lane in hand that is full in five segments takes further ones, as long as more than eight are at home, and has them until it ends.
+#[test]
+fn a_lane_in_hand_takes_further_ones() {
+    let _limit = limit();
+    let pool = growing();
+    let hand = pool.lane().expect("a lane");
+    let put = |number| {
+        hand.create_with(|object| object.0 = number)
+            .expect("a place")
+    };
+    let places = 4 * u64::from(PLACES[5]);
+    let mut keys: Vec<Key> = (0..places).map(put).collect();
+    assert_eq!((segments(&pool), lanes_of(&keys)), (5, (0..4).collect()));
+    keys.push(put(places));
+    assert_eq!((segments(&pool), lanes_of(&keys).len()), (6, 4));
+    let some = keys.iter().step_by(1000);
+    let held: Vec<_> = some.map(|key| hand.get(*key).expect("published")).collect();
+    assert_eq!(hand.references() as usize, held.len());
+    drop(held);
+    for (number, key) in (0..).zip(&keys) {
+        assert_eq!(hand.get(*key).expect("published").0, number);
+        assert!(hand.clear(*key) && !hand.clear(*key));
+    }
+    let again: Vec<Key> = (0..=places).map(put).collect();
+    assert_eq!(segments(&pool), 6);
+    assert!(lanes_of(&again).is_subset(&lanes_of(&keys)));
+    let others: Vec<_> = (0..12).map_while(|_| pool.lane()).collect();
+    assert_eq!((hand.number(), others.len()), (0, 8));
+    drop((hand, others));
+    let all: Vec<_> = (0..13).map_while(|_| pool.lane()).collect();
+    assert_eq!(all.len(), 12);
+}
+
+/// The lanes of those in the fifth segment, but for the four that are shared from the start.
+fn lanes_in_fifth(keys: &[Key]) -> BTreeSet<u64> {
+    let keys = keys.iter().copied();
+    let in_fifth = keys.filter(|key| u64::from(*key) >> 56 == 4);
+    in_fifth.map(lane_of).filter(|lane| *lane < 12).collect()
+}
+
+/// A thread whose own lane is full in five segments has another one, as long as more than four are at home, and leaves its own to be shared:
+/// it turns to that first. So what it has live, by turns, stands in few lanes.
+#[test]
+fn a_thread_changes_its_lane() {
+    let _limit = limit();
+    let pool = growing();
+    let mut keys = fill(&pool, full_lanes(1) + 5000);
+    assert_eq!(lanes_in_fifth(&keys), (0..2).collect());
+    churn(&pool, &mut keys, 100_000);
+    assert_eq!(lanes_in_fifth(&keys), (0..2).collect());
+    keys.extend(fill(&pool, full_lanes(9) - keys.len() as u64));
+    assert_eq!(lanes_in_fifth(&keys), (0..8).collect());
+    assert_eq!(segments(&pool), 5);
+    assert!(keys.iter().all(|key| pool.clear(*key)));
+    // Threads that come later have lanes: four that were at home, and the seven that were left.
+    let have_put = Barrier::new(11);
+    let lanes = at_once((0..11).map(|_| {
+        || {
+            let key = put(&pool, 1);
+            have_put.wait();
+            lane_of(key)
+        }
+    }));
+    let lanes: BTreeSet<u64> = lanes.into_iter().collect();
+    assert_eq!(lanes, (0..12).filter(|lane| *lane != 7).collect());
+}
+
+/// But it keeps a lane of which it has a filling, or a reference.
+#[test]
+fn a_thread_keeps_a_lane_that_it_uses() {
+    let _limit = limit();
+    let pool = growing();
+    let keys = fill(&pool, full_lanes(1) - 1);
+    let filling = pool.create().expect("the last place");
+    let are_beside = |keys: Vec<Key>| keys.into_iter().all(|key| lane_of(key) >= 12);
+    assert!(are_beside(fill(&pool, 100)));
+    let held = pool.get(keys[0]).expect("published");
+    filling.publish();
+    assert!(are_beside(fill(&pool, 1000)));
+    drop(held);
+    // (A create passes a lane that is full by, so often at most.)
+    assert!(!are_beside(fill(&pool, 9000)));
 }
 
 /// Publishes objects until the pool is full. Answers how many.

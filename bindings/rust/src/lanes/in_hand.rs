@@ -1,11 +1,11 @@
-//! Lanes in hand, and what they give: all of it borrows them, so that they have the lane alone.
+//! Lanes in hand, and what they give: all of it borrows them, so that they have the lane alone; and the further lanes that they take.
 use super::give_back::give_back;
 use super::own::Own;
 use super::room::Room;
 use super::seat::{Near, Post, Seat, Stands};
 use super::segment::{Segment, Sight};
 use super::token::{Begun, By, Held, InHand, Spend, Spent};
-use super::who::Number;
+use super::who::Numbers;
 use crate::clear::Clear;
 use crate::errors::{CreateError, GetError};
 use crate::key::Key;
@@ -16,13 +16,13 @@ use std::mem::ManuallyDrop;
 use std::ptr::NonNull;
 use std::sync::Arc;
 
-/// A lane in hand. It comes home when it is dropped.
+/// A lane in hand, and further ones that it took when that was full. They come home when it is dropped.
 pub(crate) struct Hand<'p, T: Clear> {
-    /// Where the lane had a place last: its seat there, and the segment of that.
+    /// Where one of the lanes had a place last: its seat there, and the segment of that.
     seat: Cell<NonNull<Seat<T>>>,
     segment: Cell<NonNull<Segment<T>>>,
     /// (Taken out by the drop alone.)
-    number: ManuallyDrop<Number>,
+    numbers: ManuallyDrop<Numbers>,
     /// Keeps the pool open, where the lane doesn't borrow it.
     _share: Option<Arc<Pool<T>>>,
     of: PhantomData<&'p Pool<T>>,
@@ -53,13 +53,13 @@ impl<'p, T: Clear> Hand<'p, T> {
         Some(Hand {
             seat: Cell::new(post.pointer()),
             segment: Cell::new(NonNull::from(first)),
-            number: ManuallyDrop::new(number),
+            numbers: ManuallyDrop::new(Numbers::of(number)),
             _share: share,
             of: PhantomData,
         })
     }
 
-    /// The lane where it had a place last.
+    /// The lane that had a place last, where that was.
     #[inline(always)]
     fn own(&self) -> Own<'_, T, Near<'_, T>> {
         // SAFETY: a segment stands as long as the pool, and that as long as the hand; and it is the seat's.
@@ -73,21 +73,21 @@ impl<'p, T: Clear> Hand<'p, T> {
         unsafe { self.segment.get().as_ref() }.room()
     }
 
-    /// The lane had a place of this segment, or has one since this call.
+    /// The lane of this seat had a place of this segment, or has one since this call.
     fn had_place(&self, post: Post<'_, T>, segment: NonNull<Segment<T>>) {
         self.seat.set(post.pointer());
         self.segment.set(segment);
     }
 
     pub(crate) fn number(&self) -> u32 {
-        self.number.get()
+        self.numbers.first()
     }
 
     /// How many references it has in all segments.
     pub(crate) fn references(&self) -> u32 {
-        let room = self.own();
-        let posts = room.room().posts_of(self.number());
-        // SAFETY: as of `own`, in each segment.
+        let numbers = self.numbers.all();
+        let posts = numbers.flat_map(|number| self.room().posts_of(number));
+        // SAFETY: as of `own`, of each of its lanes in each segment.
         posts.map(|post| unsafe { post.turn() }.references()).sum()
     }
 
@@ -111,10 +111,54 @@ impl<'p, T: Clear> Hand<'p, T> {
         T: Default,
     {
         let created = match own.create_apart() {
-            Err(CreateError::Full) => create_further(own),
+            Err(CreateError::Full) => self.create_further(),
             created => created,
         };
         created.inspect(|begun| self.had_place(begun.post(), begun.way.segment))
+    }
+
+    /// A create of the shards of all its lanes in all segments. Where all are full it takes a further lane, or has a further segment opened.
+    #[cold]
+    #[inline(never)]
+    fn create_further(&self) -> Result<Begun<'_, T, InHand<T>>, CreateError>
+    where
+        T: Default,
+    {
+        let room = self.room();
+        if !room.grows() {
+            return Err(CreateError::Full);
+        }
+        loop {
+            let count = room.count();
+            match self.create_in_any() {
+                Err(CreateError::Full) if self.takes_further(count) => (),
+                Err(CreateError::Full) => room.grow(count)?,
+                created => return created,
+            }
+        }
+    }
+
+    fn create_in_any(&self) -> Result<Begun<'_, T, InHand<T>>, CreateError>
+    where
+        T: Default,
+    {
+        for number in self.numbers.all() {
+            let created = self.room().create_by(number, |post| {
+                // SAFETY: who has the number has the lane alone, in each segment; the hand is borrowed, and on one thread.
+                unsafe { Own::of(post) }.create_here()
+            });
+            match created {
+                Err(CreateError::Full) => (),
+                created => return created,
+            }
+        }
+        Err(CreateError::Full)
+    }
+
+    /// Takes a lane that nobody has, rather than that a segment is opened behind so many. Whether it did.
+    fn takes_further(&self, count: usize) -> bool {
+        let number = self.room().take_further(count);
+        number.map(|number| self.numbers.add(number)).is_some()
     }
 
     #[inline(always)]
@@ -150,59 +194,59 @@ impl<'p, T: Clear> Hand<'p, T> {
     pub(crate) fn clear(&self, key: Key) -> bool {
         let own = self.own();
         match own.segment().sight_to_clear(key) {
-            Sight::There => own.clear(key),
+            Sight::There if key.shard() == own.post().number() => own.clear(key),
+            Sight::There => self.clear_of_other(own, key),
             Sight::Gone => false,
             Sight::Foreign => self.clear_elsewhere(key),
         }
     }
 
-    /// A clear of another segment than that of the hand.
+    /// A clear of another lane's key, in the segment of the hand.
+    #[inline(never)]
+    fn clear_of_other<'s>(&'s self, own: Own<'s, T, Near<'s, T>>, key: Key) -> bool {
+        if self.numbers.has(key.shard()) {
+            return self.clear_elsewhere(key);
+        }
+        own.clear(key)
+    }
+
+    /// A clear of another segment than that of the hand, or by another one of its lanes.
     #[inline(never)]
     fn clear_elsewhere(&self, key: Key) -> bool {
-        let Some(own) = self.own_elsewhere(key) else {
+        let shard = key.shard();
+        if !self.numbers.has(shard) {
+            return self.own_elsewhere(key).is_some_and(|own| own.clear(key));
+        }
+        let Some(own) = self.own_of(shard, key) else {
             return false;
         };
-        if key.shard() == self.number() {
-            self.had_place(own.post(), NonNull::from(own.segment()));
-            // (For who has the lane next.)
-            self.room().frees_place(key);
-        }
+        self.had_place(own.post(), NonNull::from(own.segment()));
+        // (For who has the lane next.)
+        self.room().frees_place(key);
         own.clear(key)
     }
 
     /// The lane in the segment of a key.
     #[inline]
     fn own_elsewhere(&self, key: Key) -> Option<Own<'_, T, Near<'_, T>>> {
+        self.own_of(self.number(), key)
+    }
+
+    /// The lane of this number, which is one of its own, in the segment of a key.
+    #[inline]
+    fn own_of(&self, number: u32, key: Key) -> Option<Own<'_, T, Near<'_, T>>> {
+        debug_assert!(self.numbers.has(number));
         let segment = self.room().segment_with(key)?;
         // SAFETY: who has the number has the lane alone, in each segment; the hand is borrowed, and on one thread.
-        Some(unsafe { Own::of(segment.near_of(self.number())?) })
+        Some(unsafe { Own::of(segment.near_of(number)?) })
     }
 }
 
 impl<T: Clear> Drop for Hand<'_, T> {
     fn drop(&mut self) {
         // SAFETY: taken out once.
-        let number = unsafe { ManuallyDrop::take(&mut self.number) };
-        self.own().room().come_home(number);
-    }
-}
-
-/// A create of the lane's shards in all segments, which opens a further one where all are full.
-#[cold]
-#[inline(never)]
-fn create_further<'s, T: Clear + Default>(
-    own: Own<'s, T, Near<'s, T>>,
-) -> Result<Begun<'s, T, InHand<T>>, CreateError> {
-    if !own.room().grows() {
-        return Err(CreateError::Full);
-    }
-    loop {
-        let count = own.room().count();
-        let created = own.create_in_any();
-        match created {
-            Err(CreateError::Full) => own.room().grow(count)?,
-            created => return created,
-        }
+        let numbers = unsafe { ManuallyDrop::take(&mut self.numbers) };
+        self.room().come_home(numbers);
     }
 }
 

@@ -5,7 +5,7 @@
 //! | call | asks | taken over by |
 //! |---|---|---|
 //! | all of a lane | that the lane is one of the pool's (`Owns`) | a [`Seat`](seat::Seat) never leaves its [`Segment`](segment::Segment), where `open` put it beside the pool |
-//! | all of a lane | that nobody else uses the lane meanwhile (`&mut`) | a [`Turn`](turn::Turn), which a thread has that has the lane alone ([`Own`](own::Own)): in hand, by a [`Number`](who::Number), or until it ends, but as long as it [lends](lent) the lane to an owned handle; or who has its lock, where it is shared or lent; or the thread that lends it where that handle ends there; no code of others runs within a turn, so none calls back |
+//! | all of a lane | that nobody else uses the lane meanwhile (`&mut`) | a [`Turn`](turn::Turn), which a thread has that has the lane alone ([`Own`](own::Own)): in hand, by a [`Number`](who::Number), or until it ends or [leaves](changing) it for another one, but as long as it [lends](lent) the lane to an owned handle; or who has its lock, where it is shared or lent; or the thread that lends it where that handle ends there; no code of others runs within a turn, so none calls back |
 //! | `get`, `downgrade` | fewer references than the most | a test in front of each |
 //! | `publish`, `downgrade` | that the lane made the filling, and hasn't published it (`Made`) | a [`Begun`](token::Begun), which has the lane's seat, and is spent by the call |
 //! | `release`, `read` | that the lane has a reference to the key | a [`Held`](token::Held), likewise |
@@ -21,6 +21,7 @@
 //! move: so that a filling is published once, and a reference is released once. None of its functions that are `pub(crate)` asks anything
 //! of its caller.
 mod careful;
+mod changing;
 mod emptying;
 mod far;
 mod give_back;

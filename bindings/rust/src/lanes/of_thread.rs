@@ -126,12 +126,13 @@ impl<T: Clear> Room<T> {
     #[inline(never)]
     fn create_further<'s>(
         &'s self,
-        own: Option<Own<'s, T>>,
+        mut own: Option<Own<'s, T>>,
     ) -> Result<Begun<'s, T, OfThread<T>>, CreateError>
     where
         T: Default,
     {
         self.create_growing(|| {
+            let own = own.as_mut();
             if let Some(own) = own.filter(|own| !self.passes(own.post().number())) {
                 match self.create_by_own(own) {
                     Err(CreateError::Full) => (),
@@ -143,10 +144,10 @@ impl<T: Clear> Room<T> {
     }
 
     /// A create by the thread's own lane in any segment. Where many threads have one, a further segment is opened rather than that they all
-    /// turn to the shared lanes.
+    /// turn to the shared lanes; or the thread changes its lane, if those that were left are full too.
     fn create_by_own<'s>(
         &'s self,
-        own: Own<'s, T>,
+        own: &mut Own<'s, T>,
     ) -> Result<Begun<'s, T, OfThread<T>>, CreateError>
     where
         T: Default,
@@ -157,6 +158,13 @@ impl<T: Clear> Room<T> {
             let is_full = matches!(created, Err(CreateError::Full));
             if is_full && self.grows_first(count, own.post().number()) && self.grow(count).is_ok() {
                 continue;
+            }
+            if is_full && self.uses_home_first(count) {
+                match self.create_in_left() {
+                    Err(CreateError::Full) if self.changes_lane(own) => continue,
+                    Err(CreateError::Full) => (),
+                    created => return created,
+                }
             }
             // SAFETY: it is of the thread's own lane.
             return created.inspect(|begun| unsafe { self.had_place(begun.post()) });

@@ -396,7 +396,11 @@ fn let_go_apart<T: Clear>(post: Post<'_, T>, used: Used<'_, T>) {
             }
         });
     }
-    match used.wait() {
+    // (It may ask the program's allocator for memory.)
+    let within = Within::new();
+    let waits = used.wait();
+    drop(within);
+    match waits {
         Ok(block) => own.turn().store().used.push(block),
         Err(used) => return used.empty_here(),
     }

@@ -2,9 +2,9 @@
 use super::lock::rest;
 use super::seat::Post;
 use super::segment::{row_for, Segment};
-use super::sizes::{opens_for_many, shape_of, shares_home_behind, FOR_LANES, LANES, SHARED};
+use super::sizes::{opens_for_many, shape_of, uses_home_behind, FOR_LANES, LANES, SHARED};
 use super::threads;
-use super::who::{first_bits, Lanes};
+use super::who::{first_bits, Lanes, Number};
 use crate::clear::Clear;
 use crate::erased::keybits::{tag_of, GREATEST_TAG, MOST_LANES};
 use crate::errors::{CreateError, OpenError};
@@ -252,16 +252,22 @@ impl<T: Clear> Room<T> {
         let pays = |growth: Growth| {
             let next = shape_of(count, self.lanes.count(), growth).checked();
             let places = next.map_or(u32::MAX, |next| SHARED * next.shard_places());
-            !shares_home_behind(count) && passed.load(Ordering::Relaxed) >= places
+            !uses_home_behind(count) && passed.load(Ordering::Relaxed) >= places
         };
         let are_many = || opens_for_many(count) && self.lanes.are_many_taken();
         self.growth.is_some_and(|growth| are_many() || pays(growth))
     }
 
-    /// Whether a lane that nobody has is lent to all, rather than that a segment is opened behind so many: from
-    /// some number on, and as long as many are at home.
-    pub(super) fn shares_home_first(&self, count: usize) -> bool {
-        self.grows() && shares_home_behind(count) && self.lanes.are_many_home()
+    /// Whether a lane that nobody has is used, rather than that a segment is opened behind so many: from some number on, and as long as many
+    /// are at home.
+    pub(super) fn uses_home_first(&self, count: usize) -> bool {
+        self.grows() && uses_home_behind(count) && self.lanes.are_many_home()
+    }
+
+    /// Such a lane, for who has some in hand that are full: as long as most are at home, since nobody takes it back.
+    pub(super) fn take_further(&self, count: usize) -> Option<Number> {
+        let takes = self.grows() && uses_home_behind(count) && self.lanes.are_most_home();
+        takes.then(|| self.lanes.take_home())?
     }
 
     /// Opens a further segment, unless there are other than so many by now. Where another thread opens one, it waits a while for that:

@@ -82,6 +82,11 @@ impl Joint {
         self.users == 0 && self.is_left
     }
 
+    /// How many fillings and references of the lane were leaked.
+    pub(super) fn lost(&self) -> (u32, u32) {
+        self.lost
+    }
+
     /// The pool ends. Whether the lane's users keep its memory from now on.
     pub(super) fn outlive(&mut self) -> bool {
         self.is_left = self.users > 0;

@@ -81,6 +81,23 @@ impl<T: Clear> Room<T> {
         Err(CreateError::Full)
     }
 
+    /// A create by one of the lanes that the thread left to be shared, in any segment: also by one that was found full a while ago.
+    pub(super) fn create_in_left<W: By<T>>(&self) -> Result<Begun<'_, T, W>, CreateError>
+    where
+        T: Default,
+    {
+        for number in self.left_numbers() {
+            match self.create_by(number, |post| self.create_at(post, |_: &mut Joint| ())) {
+                Err(CreateError::Full) => (),
+                created => {
+                    threads::set_last_shared(self.id(), number);
+                    return created;
+                }
+            }
+        }
+        Err(CreateError::Full)
+    }
+
     /// A create by a shared lane. One that isn't shared any more has no place to give.
     fn create_at<'s, W: By<T>>(
         &self,
@@ -103,7 +120,7 @@ impl<T: Clear> Room<T> {
     /// A create that finds all full looks again, and has the pool grow; or a lane shared that nobody has, where it can't.
     pub(super) fn create_growing<F>(
         &self,
-        create: impl Fn() -> Result<F, CreateError>,
+        mut create: impl FnMut() -> Result<F, CreateError>,
     ) -> Result<F, CreateError> {
         loop {
             let count = self.count();
@@ -118,7 +135,7 @@ impl<T: Clear> Room<T> {
                     created => return created,
                 }
             }
-            if self.shares_home_first(count) && self.share_one() {
+            if self.uses_home_first(count) && self.share_one() {
                 continue;
             }
             match self.grow(count) {

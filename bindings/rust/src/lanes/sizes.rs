@@ -9,8 +9,8 @@ pub(super) const SHARED: u32 = 4;
 /// How many segments are smaller than the widest.
 const NARROW: usize = 16;
 
-/// Behind so many segments, lanes that nobody has are lent to all before a further one is opened.
-const LENT_BEHIND: usize = 5;
+/// Behind so many segments, lanes that nobody has are used before a further one is opened. (Sooner where schedules are explored.)
+const HOME_BEHIND: usize = if cfg!(pardz_explore) { 3 } else { 5 };
 
 /// Where many threads have lanes, those of which one is full have a further segment opened at once, up to so many.
 const MANY_UP_TO: usize = 9;
@@ -57,9 +57,9 @@ fn places_of(shape: Shape) -> u32 {
     shape.checked().map_or(0, places)
 }
 
-/// Whether lanes that nobody has are lent before a segment behind so many is opened.
-pub(super) fn shares_home_behind(count: usize) -> bool {
-    count >= LENT_BEHIND
+/// Whether lanes that nobody has are used before a segment behind so many is opened.
+pub(super) fn uses_home_behind(count: usize) -> bool {
+    count >= HOME_BEHIND
 }
 
 /// Whether a segment behind so many is opened where many threads have lanes, of which one is full.

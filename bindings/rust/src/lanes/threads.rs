@@ -1,4 +1,4 @@
-//! What a thread knows of its lanes: those that it took at its first calls of pools, and keeps until it ends.
+//! What a thread knows of its lanes: of each pool one, which it took at its first call, and keeps until it ends or has another in its place.
 use super::who::{Homes, Number};
 use crate::object::Counted;
 use crate::sync::{thread_local, Counter};
@@ -11,6 +11,8 @@ use std::sync::atomic::{AtomicU64, Ordering};
 struct Entry {
     pool: u64,
     number: Number,
+    /// A bit for each lane that it had before, and left.
+    left: u64,
     homes: Counted<Homes>,
 }
 
@@ -317,17 +319,27 @@ pub(super) fn is_within() -> bool {
     Here::get().notes().held_back.get() >= WITHIN
 }
 
+/// Whether such a call is under way within another one.
+pub(super) fn is_within_another() -> bool {
+    Here::get().notes().held_back.get() >= 2 * WITHIN
+}
+
 /// The lane of a pool that the thread has.
 pub(super) fn kept(pool: u64) -> Option<u32> {
+    kept_of(pool, |entry| entry.number.get())
+}
+
+fn kept_of<R>(pool: u64, what: impl Fn(&Entry) -> R) -> Option<R> {
     let find = |kept: &Kept| {
         let entries = kept.0.borrow();
         let entry = entries.iter().find(|entry| entry.pool == pool)?;
-        Some(entry.number.get())
+        Some(what(entry))
     };
     KEPT.try_with(find).ok().flatten()
 }
 
-/// Keeps a lane of a pool, until the thread ends. It comes back where the thread ends already, and where memory was refused.
+/// Keeps a lane of a pool, until the thread ends. It comes back where the thread ends already, where memory was refused, and where the thread
+/// keeps one by now.
 ///
 /// (No memory is asked for or freed while the row is borrowed: the program's allocator may call the pool.)
 pub(super) fn keep(pool: u64, number: Number, homes: &Counted<Homes>) -> Result<(), Number> {
@@ -335,13 +347,14 @@ pub(super) fn keep(pool: u64, number: Number, homes: &Counted<Homes>) -> Result<
     let kept = KEPT.try_with(|kept| {
         kept.forget_closed();
         let homes = Counted::clone(homes);
-        if !kept.has_room() {
+        if !kept.has_room() || kept.has(pool) {
             return;
         }
         if let Some(number) = number.take() {
             kept.0.borrow_mut().push(Entry {
                 pool,
                 number,
+                left: 0,
                 homes,
             });
         }
@@ -367,6 +380,31 @@ pub(super) unsafe fn leave(pool: u64) {
     }
 }
 
+/// The thread has another lane of a pool, in place of its own one, which it leaves: that comes back. The other one does where it keeps none.
+///
+/// # Safety
+///
+/// It has nothing of the lane that it leaves, and no call further out on the stack has that.
+pub(super) unsafe fn change(pool: u64, other: Number) -> Result<Number, Number> {
+    let mut number = other;
+    let changed = KEPT.try_with(|kept| {
+        let mut entries = kept.0.borrow_mut();
+        let entry = entries.iter_mut().find(|entry| entry.pool == pool)?;
+        mem::swap(&mut entry.number, &mut number);
+        entry.left |= 1 << number.get();
+        Some(())
+    });
+    match changed {
+        Ok(Some(())) => Ok(number),
+        Ok(None) | Err(_) => Err(number),
+    }
+}
+
+/// A bit for each lane of a pool that the thread left for another one.
+pub(super) fn left(pool: u64) -> u64 {
+    kept_of(pool, |entry| entry.left).unwrap_or(0)
+}
+
 impl Kept {
     /// Takes out the lanes of pools that are closed.
     fn forget_closed(&self) {
@@ -381,6 +419,11 @@ impl Kept {
         let mut entries = self.0.borrow_mut();
         let at = entries.iter().position(is)?;
         Some(entries.swap_remove(at))
+    }
+
+    fn has(&self, pool: u64) -> bool {
+        let entries = self.0.borrow();
+        entries.iter().any(|entry| entry.pool == pool)
     }
 
     /// Has room for one more. Whether it has.

@@ -1,8 +1,8 @@
 //! Who has a pool's lanes.
 //!
-//! A lane is at home, where nobody has it; or in hand; or kept by a thread, until that ends; or left by such a thread, until the pool sees
-//! it; or shared by all threads, each call under a lock. Whose it is it is in all segments that have it: those that are opened once threads
-//! find no lane have more than those before.
+//! A lane is at home, where nobody has it; or in hand; or kept by a thread, until that ends or has another in its place; or left by a thread
+//! that ended, until the pool sees it; or shared by all threads, each call under a lock. Whose it is it is in all segments that have it:
+//! those that are opened once threads find no lane have more than those before.
 use super::own::Own;
 use super::room::Room;
 use super::seat::Post;
@@ -13,6 +13,7 @@ use crate::erased::keybits::MOST_LANES;
 use crate::errors::{MemoryRefused, OpenError};
 use crate::object::Counted;
 use crate::sync::{AtomicBool, AtomicU64, Mutex, Ordering};
+use std::cell::Cell;
 use std::iter;
 use std::sync::PoisonError;
 
@@ -27,6 +28,40 @@ impl Number {
 
     fn bit(&self) -> u64 {
         1 << self.0
+    }
+}
+
+/// The numbers of lanes that one has taken alone: the first, and further ones.
+pub(super) struct Numbers {
+    first: u32,
+    /// A bit for each.
+    all: Cell<u64>,
+}
+
+impl Numbers {
+    pub(super) fn of(first: Number) -> Numbers {
+        Numbers {
+            first: first.get(),
+            all: Cell::new(first.bit()),
+        }
+    }
+
+    pub(super) fn first(&self) -> u32 {
+        self.first
+    }
+
+    pub(super) fn add(&self, further: Number) {
+        self.all.set(self.all.get() | further.bit());
+    }
+
+    /// Whether it is one of them.
+    #[inline]
+    pub(super) fn has(&self, number: u32) -> bool {
+        bits(self.all.get()).any(|one| one == number)
+    }
+
+    pub(super) fn all(&self) -> impl Iterator<Item = u32> {
+        bits(self.all.get())
     }
 }
 
@@ -116,6 +151,11 @@ impl Lanes {
         self.home.load(Ordering::Relaxed).count_ones() > self.few
     }
 
+    /// Whether more than twice as many are, as of this look.
+    pub(super) fn are_most_home(&self) -> bool {
+        self.home.load(Ordering::Relaxed).count_ones() > 2 * self.few
+    }
+
     /// Whether a lane is at home, as of this look.
     pub(super) fn some_are_home(&self) -> bool {
         self.home.load(Ordering::Relaxed) != 0
@@ -152,7 +192,7 @@ impl Lanes {
     }
 
     /// Takes a lane that is at home.
-    fn take_home(&self) -> Option<Number> {
+    pub(super) fn take_home(&self) -> Option<Number> {
         self.take_home_of(u64::MAX)
     }
 
@@ -166,7 +206,7 @@ impl Lanes {
         Some(Number(first(home.ok()?).trailing_zeros()))
     }
 
-    fn go_home(&self, number: Number) {
+    pub(super) fn go_home(&self, number: Number) {
         self.home.fetch_or(number.bit(), Ordering::SeqCst);
     }
 }
@@ -269,7 +309,8 @@ impl<T: Clear> Room<T> {
             Ok(()) => Some(kept),
             Err(number) => {
                 lanes.go_home(number);
-                None
+                // (Its allocator may call the pool.)
+                threads::kept(self.id())
             }
         }
     }
@@ -296,13 +337,15 @@ impl<T: Clear> Room<T> {
         self.locked(|| !self.lanes.none_is_home()) || self.widen(count)
     }
 
-    /// A lane that was in hand comes home. What it has yet was leaked, for all that it gave borrowed it.
-    pub(super) fn come_home(&self, number: Number) {
-        for post in self.posts_of(number.get()) {
-            // SAFETY: who has the number has the lane alone.
-            unsafe { post.lose() };
+    /// Lanes that were in hand come home. What they have yet was leaked, for all that they gave borrowed them.
+    pub(super) fn come_home(&self, numbers: Numbers) {
+        for number in numbers.all().map(Number) {
+            for post in self.posts_of(number.get()) {
+                // SAFETY: who has the number has the lane alone.
+                unsafe { post.lose() };
+            }
+            self.lanes.go_home(number);
         }
-        self.lanes.go_home(number);
     }
 
     pub(super) fn locked<R>(&self, with: impl FnOnce() -> R) -> R {
@@ -335,7 +378,7 @@ impl<T: Clear> Room<T> {
     }
 
     /// From now on the lane is shared. (Under the lock, so that no segment comes meanwhile.)
-    fn share(&self, number: Number) {
+    pub(super) fn share(&self, number: Number) {
         for post in self.posts_of(number.get()) {
             // SAFETY: who has the number has the lane alone, and has it no more.
             unsafe { post.share() };
@@ -405,6 +448,11 @@ impl<T: Clear> Room<T> {
         let shared = self.lanes.shared.load(Ordering::SeqCst);
         let turn = threads::turn().checked_rem(shared.count_ones())? as usize;
         Some(bits(shared).skip(turn).chain(bits(shared).take(turn)))
+    }
+
+    /// The numbers of the shared lanes that the thread left.
+    pub(super) fn left_numbers(&self) -> impl Iterator<Item = u32> {
+        bits(self.lanes.shared.load(Ordering::SeqCst) & threads::left(self.id()))
     }
 
     /// The shared lane of the thread's choice. The first is one that all segments have. None where all lanes are in hand.

@@ -1,0 +1,63 @@
+//! Threads that change their lane: one that is full in all segments is shared from then on, so that the thread's next creates take no lock.
+use super::own::Own;
+use super::room::Room;
+use super::seat::Post;
+use super::threads::{self, Here};
+use crate::clear::Clear;
+
+impl<T: Clear> Room<T> {
+    /// The thread leaves its own lane, which is shared from now on, and has one that nobody had: `own` is that then. Whether it did.
+    #[cold]
+    pub(super) fn changes_lane<'s>(&'s self, own: &mut Own<'s, T>) -> bool {
+        debug_assert_eq!(threads::kept(self.id()), Some(own.post().number()));
+        if !self.may_share(own.post().number()) {
+            return false;
+        }
+        // SAFETY: so it was looked just now; and whose `own` it was has the other one then.
+        let Some(number) = (unsafe { self.change() }) else {
+            return false;
+        };
+        let post = self.last_post(number).expect("a segment is open");
+        // SAFETY: the thread keeps the lane of this number.
+        unsafe { self.had_place(post) };
+        // SAFETY: as above.
+        *own = unsafe { Own::of(post) };
+        true
+    }
+
+    /// Whether the thread may leave its own lane of this number: it has nothing of it, and no call has it further out on the stack than the
+    /// create that is under way.
+    fn may_share(&self, number: u32) -> bool {
+        let is_unused = |post: Post<'_, T>| {
+            // SAFETY: the thread has the lane alone.
+            let mut turn = unsafe { post.turn() };
+            turn.counts() == post.joint(|joint| joint.lost()) && !turn.store().empties
+        };
+        // (Within the create that is under way it lends none.)
+        debug_assert!(!Here::get().is_apart());
+        !threads::is_within_another() && self.posts_of(number).all(is_unused)
+    }
+
+    /// The number of the lane that the thread has then. None where nobody leaves one: then it keeps its own.
+    ///
+    /// # Safety
+    ///
+    /// The thread has nothing of its own lane, and no call further out on the stack has that.
+    unsafe fn change(&self) -> Option<u32> {
+        self.locked(|| {
+            let other = self.lanes.take_home()?;
+            let number = other.get();
+            // SAFETY: the caller's.
+            match unsafe { threads::change(self.id(), other) } {
+                Ok(left) => {
+                    self.share(left);
+                    Some(number)
+                }
+                Err(other) => {
+                    self.lanes.go_home(other);
+                    None
+                }
+            }
+        })
+    }
+}
