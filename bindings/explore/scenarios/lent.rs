@@ -1,6 +1,8 @@
 //! Threads that lend their lane to an owned handle, which ends there or elsewhere, while they call, end, or drop the pool.
-use crate::world::{emptied, growing, lanes_at_home, number_of, shape, Scenario, Tracked, World};
-use explorer::Mutex;
+use crate::world::{
+    emptied, growing, key_of, lanes_at_home, number_of, shape, Scenario, Tracked, World,
+};
+use explorer::{Mutex, Work};
 use pardz::sharded_slab;
 use pardz::{Clear, Key, OwnedFilling, OwnedRef, Pool};
 use std::cell::Cell;
@@ -93,6 +95,18 @@ pub fn all() -> Vec<Scenario> {
             },
         )
         .bounded(1),
+        beside(
+            "lent-and-let-go",
+            [Handles::lend_reference_beside, Handles::let_go_and_clear],
+        ),
+        beside(
+            "lent-and-published",
+            [Handles::lend_filling_beside, Handles::publish_and_clear],
+        ),
+        beside(
+            "lent-and-given-up",
+            [Handles::lend_filling_beside, Handles::give_up_and_clear],
+        ),
         Scenario::new(
             "lent-outlives",
             Outlived::new,
@@ -130,6 +144,15 @@ pub fn all() -> Vec<Scenario> {
         )
         .bounded(2),
     ]
+}
+
+/// A thread that lends its lane has a reference of it, and so keeps it: what the handle had of it may be given back, but that hasn't ended.
+fn beside(name: &'static str, works: [Work<Handles>; 2]) -> Scenario {
+    let end = |handles: Handles| {
+        handles.drop_all();
+        handles.world.close();
+    };
+    Scenario::new(name, || Handles::of(growing(0)), works, end).bounded(2)
 }
 
 /// The thread lends its lanes from now on.
@@ -324,6 +347,55 @@ impl Handles {
         }
         assert_eq!(object.expect("published").get(), 1);
         self.call();
+    }
+
+    /// Hinders its own calls by what it handed on, as it has a reference.
+    fn call_beside(&self, hand_on: impl FnOnce(Key)) {
+        lends();
+        let key = self.world.make_by_call(1).expect("a place");
+        let object = self.pool().get(key);
+        hand_on(key);
+        for _ in 0..3 {
+            drop(self.pool().get(key));
+        }
+        drop(object);
+    }
+
+    fn lend_reference_beside(&self) {
+        self.call_beside(|key| {
+            *self.reference.lock().expect("no panic") = self.pool().get_owned(key);
+        });
+    }
+
+    fn lend_filling_beside(&self) {
+        self.call_beside(|_| self.hand_on_filling());
+    }
+
+    /// Ends a handle, and then clears the first key of the thread that had a lane first. (With a lane that it has before, so that it isn't
+    /// ordered behind all that the other one did.)
+    fn end_and_clear(&self, end: impl FnOnce()) {
+        let first = key_of(1, 0);
+        drop(self.pool().get(first));
+        end();
+        self.world.count(self.pool().clear(first));
+    }
+
+    fn let_go_and_clear(&self) {
+        if let Some(object) = self.reference.lock().expect("no panic").take() {
+            self.end_and_clear(|| drop(object));
+        }
+    }
+
+    fn publish_and_clear(&self) {
+        if let Some(filling) = self.filling.lock().expect("no panic").take() {
+            self.end_and_clear(|| self.world.note(filling.publish()));
+        }
+    }
+
+    fn give_up_and_clear(&self) {
+        if let Some(filling) = self.filling.lock().expect("no panic").take() {
+            self.end_and_clear(|| drop(filling));
+        }
     }
 
     fn take_and_call(&self) {

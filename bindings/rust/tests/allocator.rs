@@ -1,76 +1,18 @@
 //! The program's allocator calls the pool: as a hook of one might, that counts or traces.
 mod common;
+#[path = "common/hooked.rs"]
+mod hooked;
 
 use common::{alone, at_once, ALONE};
-use pardz::{Clear, Key, Lane, Pool, Shape};
-use std::alloc::{GlobalAlloc, Layout, System};
+use hooked::{BLOCKS, HOOK, HOOKED};
+use pardz::{Key, Lane, Pool, Shape};
 use std::cell::{Cell, OnceCell};
-use std::panic::{self, AssertUnwindSafe};
-use std::sync::atomic::{AtomicUsize, Ordering::SeqCst};
+use std::sync::atomic::Ordering::SeqCst;
 use std::sync::{Arc, OnceLock};
 use std::{env, mem, ptr};
 
-/// The system's memory, with a hook at each request and each free.
-struct Hooked;
-
-#[global_allocator]
-static HEAP: Hooked = Hooked;
-
 thread_local! {
-    /// What the hook does on this thread, but within itself.
-    static HOOK: Cell<fn()> = const { Cell::new(|| ()) };
     static LANE: OnceCell<Lane<'static, String>> = const { OnceCell::new() };
-    /// Whether memory is refused.
-    static REFUSES: Cell<bool> = const { Cell::new(false) };
-}
-
-static HOOKED: AtomicUsize = AtomicUsize::new(0);
-/// How many blocks of memory there are.
-static BLOCKS: AtomicUsize = AtomicUsize::new(0);
-
-fn hooked() {
-    fn nothing() {}
-    let Ok(hook) = HOOK.try_with(|hook| hook.replace(nothing)) else {
-        return;
-    };
-    hook();
-    HOOK.set(hook);
-}
-
-// SAFETY: each block is the system's.
-unsafe impl GlobalAlloc for Hooked {
-    unsafe fn alloc(&self, layout: Layout) -> *mut u8 {
-        hooked();
-        if REFUSES.get() {
-            return ptr::null_mut();
-        }
-        BLOCKS.fetch_add(1, SeqCst);
-        // SAFETY: the caller keeps what `System` asks.
-        unsafe { System.alloc(layout) }
-    }
-
-    unsafe fn alloc_zeroed(&self, layout: Layout) -> *mut u8 {
-        hooked();
-        if REFUSES.get() {
-            return ptr::null_mut();
-        }
-        BLOCKS.fetch_add(1, SeqCst);
-        // SAFETY: the caller keeps what `System` asks.
-        unsafe { System.alloc_zeroed(layout) }
-    }
-
-    unsafe fn realloc(&self, block: *mut u8, layout: Layout, size: usize) -> *mut u8 {
-        hooked();
-        // SAFETY: the caller keeps what `System` asks.
-        unsafe { System.realloc(block, layout, size) }
-    }
-
-    unsafe fn dealloc(&self, block: *mut u8, layout: Layout) {
-        hooked();
-        BLOCKS.fetch_sub(1, SeqCst);
-        // SAFETY: the caller keeps what `System` asks.
-        unsafe { System.dealloc(block, layout) }
-    }
 }
 
 fn pool() -> &'static Arc<Pool<String>> {
@@ -247,82 +189,6 @@ fn lane_of(key: Key) -> u64 {
     u64::from(key) >> 16 & 0xff
 }
 
-/// While a thread whose lane is full opens a segment its hook creates without memory for one: it keeps that lane, which has the first place of
-/// the new segment then.
-#[test]
-fn a_hook_finds_no_memory_while_a_segment_opens() {
-    static GROWING: OnceLock<Pool<String>> = OnceLock::new();
-    fn creates() {
-        REFUSES.set(true);
-        let created = GROWING.get().expect("it is set").create();
-        let key = created.map(|filling| filling.publish());
-        REFUSES.set(false);
-        assert!(
-            lane_of(key.expect("a place")) >= 12,
-            "a lane that all share"
-        );
-        HOOKED.fetch_add(1, SeqCst);
-    }
-    alone("a_hook_finds_no_memory_while_a_segment_opens", || {
-        let pool = GROWING.get_or_init(|| Pool::growing().unwrap());
-        // (Of twelve lanes more than four stay at home; and as many are had that a segment is opened at once.)
-        let lanes: Vec<_> = (0..4).map_while(|_| pool.lane()).collect();
-        let publish = |_| pool.create().unwrap().publish();
-        let keys: Vec<_> = (0..32 + 64 + 192 + 960 + 12_224).map(publish).collect();
-        let own = lane_of(keys[0]);
-        assert!(keys.iter().all(|key| lane_of(*key) == own));
-        HOOK.set(creates);
-        let created = pool.create();
-        HOOK.set(|| ());
-        let key = created.unwrap().publish();
-        assert_eq!((tag_of(key), lane_of(key)), (5, own));
-        assert!(HOOKED.load(SeqCst) > 0 && lanes.len() == 4);
-    });
-}
-
-/// An object that is let go of while the thread unwinds waits in memory of its own. The hook, which is asked for that, has no lane lent to it.
-#[test]
-fn a_hook_creates_while_an_object_waits() {
-    #[derive(Default)]
-    struct Text(String);
-    impl Clear for Text {
-        fn clear(&mut self) {
-            self.0.clear();
-        }
-    }
-    static TEXTS: OnceLock<Pool<Text>> = OnceLock::new();
-    fn creates() {
-        let pool = TEXTS.get().expect("it is set");
-        let key = pool.create_owned().expect("a place").publish();
-        assert!(lane_of(key) >= 12, "a lane that all share");
-        HOOKED.fetch_add(1, SeqCst);
-    }
-    alone("a_hook_creates_while_an_object_waits", || {
-        let pool = TEXTS.get_or_init(|| Pool::growing().unwrap());
-        let key = pool.create().unwrap().publish();
-        // (A thread lends its lane once so many handles have ended there.)
-        (0..100).for_each(|_| drop(pool.create_owned().unwrap()));
-        assert_eq!(lane_of(pool.create_owned().unwrap().key()), lane_of(key));
-        let unwinds = panic::catch_unwind(AssertUnwindSafe(|| {
-            let _clears = OnDrop(|| {
-                HOOK.set(creates);
-                assert!(pool.clear(key));
-                HOOK.set(|| ());
-            });
-            panic::resume_unwind(Box::new(()));
-        }));
-        assert!(unwinds.is_err() && HOOKED.load(SeqCst) > 0);
-    });
-}
-
-struct OnDrop<F: FnMut()>(F);
-
-impl<F: FnMut()> Drop for OnDrop<F> {
-    fn drop(&mut self) {
-        (self.0)();
-    }
-}
-
 /// While a thread opens a segment its hook opens that one, and another one: each is there once.
 #[test]
 fn a_hook_opens_segments_while_one_opens() {
@@ -361,30 +227,6 @@ fn a_hook_calls_while_a_thread_keeps_lanes() {
         for pool in &pools {
             assert!(pool.lane().is_some(), "its lane came home");
         }
-    });
-}
-
-/// The same, where the hook's call of the pool keeps a lane of it: the thread has that one alone.
-#[test]
-fn a_hook_keeps_a_lane_while_its_thread_does() {
-    static GROWING: OnceLock<Pool<String>> = OnceLock::new();
-    fn keeps() {
-        let pool = GROWING.get().expect("it is set");
-        let key = pool.create().unwrap().publish();
-        assert!(pool.clear(key));
-        HOOKED.fetch_add(1, SeqCst);
-    }
-    alone("a_hook_keeps_a_lane_while_its_thread_does", || {
-        let pool = GROWING.get_or_init(|| Pool::growing().unwrap());
-        drop(pool.lane());
-        at_once([|| {
-            HOOK.set(keeps);
-            let created = pool.create();
-            HOOK.set(|| ());
-            assert!(pool.clear(created.unwrap().publish()) && HOOKED.load(SeqCst) > 0);
-            let others: Vec<_> = (0..13).map_while(|_| pool.lane()).collect();
-            assert_eq!(others.len(), 11);
-        }]);
     });
 }
 

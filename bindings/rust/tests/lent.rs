@@ -4,6 +4,7 @@ mod common;
 use common::limit;
 use pardz::{Buffer, Clear, Key, Pool};
 use std::cell::Cell;
+use std::sync::{Arc, Barrier};
 use std::thread;
 
 /// So many owned handles end on a thread before it lends a lane; and so many more, where one hindered a call or ended elsewhere.
@@ -119,6 +120,47 @@ fn a_thread_leaves_its_lane_to_a_handle_that_hinders_it() {
         assert!(pool.get(key).is_some());
     }
     assert_eq!(lane_of(put(&pool)), other);
+}
+
+/// An object whose emptying waits for another thread: as it begins, and in front of its end.
+#[derive(Default)]
+struct Slow {
+    waits: Option<Arc<[Barrier; 2]>>,
+}
+
+impl Clear for Slow {
+    fn clear(&mut self) {
+        let waits = self.waits.take();
+        waits
+            .iter()
+            .flat_map(|waits| waits.iter())
+            .for_each(|wait| {
+                wait.wait();
+            });
+    }
+}
+
+/// A thread has a reference of the lane that it lends. The handle has given back its own, but hasn't ended.
+#[test]
+fn a_lane_is_kept_while_the_handle_that_had_it_ends() {
+    let _limit = limit();
+    let pool = Pool::<Slow>::growing().expect("memory");
+    let key = pool.create().expect("a place").publish();
+    (0..FIRST).for_each(|_| drop(pool.create_owned()));
+    let held = pool.get(key);
+    let waits = Arc::new([(); 2].map(|()| Barrier::new(2)));
+    let slow = pool.create_with(|slow| slow.waits = Some(Arc::clone(&waits)));
+    let slow = slow.expect("a place");
+    let handle = pool.get_owned(slow).expect("published");
+    assert!(pool.clear(slow));
+    let ending = thread::spawn(move || drop(handle));
+    waits[0].wait();
+    (0..3 * MOST_HINDERED).for_each(|_| drop(pool.get(key)));
+    let filling = pool.create().expect("a place");
+    assert_eq!(lane_of(filling.key()), lane_of(key));
+    waits[1].wait();
+    ending.join().expect("no panic");
+    assert!(held.is_some());
 }
 
 #[test]

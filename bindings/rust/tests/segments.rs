@@ -157,7 +157,11 @@ fn lanes_in_fifth(keys: &[Key]) -> BTreeSet<u64> {
 #[test]
 fn a_thread_changes_its_lane() {
     let _limit = limit();
-    let pool = growing();
+    let (pool, other) = (growing(), growing());
+    // (It lends its lane of another pool meanwhile.)
+    put(&other, 1);
+    (0..16).for_each(|_| drop(other.create_owned()));
+    let _lent = other.create_owned();
     let mut keys = fill(&pool, full_lanes(1) + 5000);
     assert_eq!(lanes_in_fifth(&keys), (0..2).collect());
     churn(&pool, &mut keys, 100_000);

@@ -2,7 +2,7 @@
 use super::own::Own;
 use super::room::Room;
 use super::seat::Post;
-use super::threads::{self, Here};
+use super::threads;
 use crate::clear::Clear;
 
 impl<T: Clear> Room<T> {
@@ -31,10 +31,10 @@ impl<T: Clear> Room<T> {
         let is_unused = |post: Post<'_, T>| {
             // SAFETY: the thread has the lane alone.
             let mut turn = unsafe { post.turn() };
-            turn.counts() == post.joint(|joint| joint.lost()) && !turn.store().empties
+            post.joint(|joint| joint.is_idle(turn.counts())) && !turn.store().empties
         };
         // (Within the create that is under way it lends none.)
-        debug_assert!(!Here::get().is_apart());
+        debug_assert!(!threads::lends(self.id()));
         !threads::is_within_another() && self.posts_of(number).all(is_unused)
     }
 

@@ -21,11 +21,16 @@ const FOR_NOTHING: u64 = 64;
 /// How many calls of its thread a handle may hinder, before the thread leaves the lane to it.
 const MOST_HINDERED: u32 = if cfg!(pardz_explore) { 1 } else { 1000 };
 
-/// In the word of a lane that is lent: the pool has ended, so that the handle keeps its memory.
+/// In the word of a lane that is lent: the pool has ended, so that the handle keeps its memory; and the handle has given back what it had of
+/// the lane, and ends.
 const OUTLIVES: u64 = 1;
+const GAVE_BACK: u64 = 2;
 
-/// Who lends a lane: 0 where nobody does, and else twice the number of the thread. It is written by that, and then by the handle that
-/// ends, which is the last that it does.
+/// What the word has for each number of a thread.
+const NUMBER: u64 = 4;
+
+/// Who lends a lane: 0 where nobody does, and else the number of the thread. It is written by that, and then by the handle that ends, which
+/// is the last that it does.
 pub(super) struct Lent {
     word: AtomicU64,
 }
@@ -46,7 +51,8 @@ impl Lent {
     /// Whether this thread lends it. (It stays so as long as a handle is here.)
     #[inline(always)]
     fn is_lent_here(&self) -> bool {
-        self.word.load(Ordering::Relaxed) & !OUTLIVES == 2 * Here::get().lender()
+        let word = self.word.load(Ordering::Relaxed);
+        word & !(OUTLIVES | GAVE_BACK) == NUMBER * Here::get().lender()
     }
 
     /// This thread lends the lane, which it has alone. (The pool is borrowed meanwhile.)
@@ -54,7 +60,19 @@ impl Lent {
     fn begin(&self, here: Here) {
         debug_assert!(!self.is_lent(), "a lane is lent to one handle at a time");
         self.word
-            .store(2 * here.lender_from_now_on(), Ordering::Relaxed);
+            .store(NUMBER * here.lender_from_now_on(), Ordering::Relaxed);
+    }
+
+    /// The handle has given back what it had of the lane, but code of others may run before it has ended. (Under the lane's lock, or on the
+    /// thread that lends it.)
+    fn gives_back(&self) {
+        self.word.fetch_or(GAVE_BACK, Ordering::Relaxed);
+    }
+
+    /// Whether a handle has something of the lane. (Likewise.)
+    pub(super) fn has_guest(&self) -> bool {
+        let word = self.word.load(Ordering::Relaxed);
+        word != 0 && word & GAVE_BACK == 0
     }
 
     /// The handle has ended. Whether it lets go of the pool's memory.
@@ -202,17 +220,18 @@ impl<T: Clear> Room<T> {
         None
     }
 
-    /// Whether the thread may leave the lane that it lends to the handle, and have another one: it has nothing else of the lane, and no call
-    /// further out on the stack has it.
+    /// Whether the thread may leave the lane that it lends to the handle, and have another one: all that there is of the lane the handle has,
+    /// and no call further out on the stack has it.
     fn may_leave(&self, number: u32) -> bool {
+        if !self.grows() || !self.lanes.some_are_home() || threads::is_within() {
+            return false;
+        }
         // SAFETY: the thread lends the lane, so all calls take its lock.
         let mut in_use = self.posts_of(number).map(|post| unsafe { post.in_use() });
-        self.grows()
-            && self.lanes.some_are_home()
-            && !threads::is_within()
-            && in_use.try_fold(0, |all, (count, is_emptying)| {
-                (!is_emptying).then_some(all + count)
-            }) == Some(1)
+        let all = in_use.try_fold((0, 0), |(count, guests), one| {
+            (!one.is_emptying).then_some((count + one.count, guests + u32::from(one.has_guest)))
+        });
+        all == Some((1, 1))
     }
 }
 
@@ -343,7 +362,12 @@ impl<'s, T: Clear> Post<'s, T> {
         };
         super::give_back::give_back(begun, |begun, is_empty| {
             // SAFETY: the lane is lent, so all calls take its lock. The rest is the caller's.
-            unsafe { self.locked(|turn, _| turn.publish_and_clear(begun, is_empty)) }
+            unsafe {
+                self.locked(|turn, _| {
+                    self.seat().lent.gives_back();
+                    turn.publish_and_clear(begun, is_empty)
+                })
+            }
         });
     }
 }
@@ -353,6 +377,7 @@ impl<'s, T: Clear> Post<'s, T> {
 #[inline(never)]
 fn finish<T: Clear>(post: Post<'_, T>, is_kept: bool) {
     let _guest = Guest { post, is_kept };
+    post.seat().lent.gives_back();
     // SAFETY: the thread keeps the lane, and the one handle to which that is lent has ended but for this.
     unsafe { Own::of(post) }.finish();
 }
@@ -366,7 +391,7 @@ fn release_elsewhere<T: Clear>(post: Post<'_, T>, words: (NonNull<T>, Key, u64))
     let is_kept = held.is_kept();
     let _guest = Guest { post, is_kept };
     // SAFETY: the lane is lent, so all calls take its lock; and the reference is of this lane.
-    unsafe { post.locked_release(held) };
+    unsafe { post.locked_release(held, || post.seat().lent.gives_back()) };
 }
 
 /// A publish there.
@@ -378,5 +403,10 @@ fn publish_elsewhere<T: Clear>(post: Post<'_, T>, object: NonNull<T>, key: Key, 
     let is_kept = begun.is_kept();
     let _guest = Guest { post, is_kept };
     // SAFETY: as of a release.
-    unsafe { post.locked(|turn, _| turn.publish(begun)) }
+    unsafe {
+        post.locked(|turn, _| {
+            post.seat().lent.gives_back();
+            turn.publish(begun)
+        })
+    }
 }

@@ -450,6 +450,6 @@ unsafe fn release_apart<T: Clear>(post: Post<'_, T>, object: NonNull<T>, key: Ke
         // SAFETY: it is of its own lane.
         Way::Own(own) => unsafe { own.release(held) },
         // SAFETY: no thread has such a lane alone, and it is of its own lane.
-        Way::Locked(post) => unsafe { post.locked_release(held) },
+        Way::Locked(post) => unsafe { post.locked_release(held, || ()) },
     }
 }

@@ -55,6 +55,16 @@ pub(super) struct Store<T> {
     pub(super) spare: Chain<T>,
 }
 
+/// What there is of a lane in a segment.
+pub(super) struct InUse {
+    /// How many fillings and references that aren't leaked.
+    pub(super) count: u32,
+    /// Whether one of these is of the handle to which the lane is lent.
+    pub(super) has_guest: bool,
+    /// Whether an object of the segment is being emptied.
+    pub(super) is_emptying: bool,
+}
+
 /// What the explorer calls it.
 const JOINT: &str = "what is known under a lane's lock";
 
@@ -82,9 +92,9 @@ impl Joint {
         self.users == 0 && self.is_left
     }
 
-    /// How many fillings and references of the lane were leaked.
-    pub(super) fn lost(&self) -> (u32, u32) {
-        self.lost
+    /// Whether the lane, which has so many fillings and references, has no user, and nothing that isn't leaked.
+    pub(super) fn is_idle(&self, counts: (u32, u32)) -> bool {
+        self.users == 0 && counts == self.lost
     }
 
     /// The pool ends. Whether the lane's users keep its memory from now on.
@@ -408,25 +418,28 @@ impl<'s, T: Clear> Post<'s, T> {
         sync::writes(self.seat().joint.get(), JOINT);
         // SAFETY: who has the lock of a lane that no thread has alone uses it alone.
         let (mut turn, joint) = unsafe { (self.turn(), &mut *self.seat().joint.get()) };
-        let is_idle = joint.users == 0 && turn.counts() == joint.lost && !self.is_lent();
+        let is_idle = joint.is_idle(turn.counts()) && !self.is_lent();
         if is_idle {
             had.set_shared(false);
         }
         is_idle
     }
 
-    /// How many fillings and references the lane has that aren't leaked, and whether an object of the segment is being emptied.
+    /// What there is of the lane in the segment.
     ///
     /// # Safety
     ///
     /// No thread has the lane alone.
-    pub(super) unsafe fn in_use(self) -> (u32, bool) {
+    pub(super) unsafe fn in_use(self) -> InUse {
         // SAFETY: the caller's.
         unsafe {
             self.locked(|turn, joint| {
                 let ((fillings, references), lost) = (turn.counts(), joint.lost);
-                let count = fillings + references - lost.0 - lost.1;
-                (count, turn.store().empties)
+                InUse {
+                    count: fillings + references - lost.0 - lost.1,
+                    is_emptying: turn.store().empties,
+                    has_guest: self.seat().lent.has_guest(),
+                }
             })
         }
     }

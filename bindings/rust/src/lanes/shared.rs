@@ -212,15 +212,16 @@ impl<'s, T: Clear> Post<'s, T> {
         Ok(self.finish_get(got))
     }
 
-    /// Gives a reference back.
+    /// Gives a reference back, and does this under the lock as well.
     ///
     /// # Safety
     ///
     /// No thread has the lane alone, and the reference is of this lane.
-    pub(super) unsafe fn locked_release<W>(self, held: Held<'_, T, W>) {
+    pub(super) unsafe fn locked_release<W>(self, held: Held<'_, T, W>, also: impl FnOnce()) {
         // SAFETY: the caller's.
         let taken = unsafe {
             self.locked(|turn, joint| {
+                also();
                 turn.release(held);
                 taken(turn, joint)
             })

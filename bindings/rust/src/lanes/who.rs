@@ -7,7 +7,7 @@ use super::own::Own;
 use super::room::Room;
 use super::seat::Post;
 use super::segment::Segment;
-use super::threads::{self, Here};
+use super::threads::{self, Here, Within};
 use crate::clear::Clear;
 use crate::erased::keybits::MOST_LANES;
 use crate::errors::{MemoryRefused, OpenError};
@@ -291,6 +291,8 @@ impl<T: Clear> Room<T> {
 
     /// The lane that the thread keeps, or is to keep from now on. None where it shares.
     fn thread_number(&self) -> Option<u32> {
+        // (The program's allocator may call the pool, and so keep a lane.)
+        let _within = Within::new();
         if let Some(number) = threads::kept(self.id()) {
             return Some(number);
         }
@@ -309,7 +311,6 @@ impl<T: Clear> Room<T> {
             Ok(()) => Some(kept),
             Err(number) => {
                 lanes.go_home(number);
-                // (Its allocator may call the pool.)
                 threads::kept(self.id())
             }
         }
