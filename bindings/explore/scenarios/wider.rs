@@ -1,8 +1,8 @@
 //! More threads than a growing pool's first segment has lanes for: a create of a thread that finds none has a segment with more opened.
 use crate::growing::two_segments;
 use crate::late::leave_reference_to;
-use crate::world::{emptied, growing, look, look_by_call, number_of, Scenario, World};
-use pardz::Key;
+use crate::world::{emptied, growing, growing_by, look, look_by_call, number_of, Scenario, World};
+use pardz::{Growth, Key};
 
 /// So many lanes of a growing pool may be taken in hand, each with so many places in the first segment.
 const TAKEN: usize = 12;
@@ -15,6 +15,7 @@ const OF_TWO: u32 = 16 * 32 + 32 * 32;
 pub fn all() -> Vec<Scenario> {
     vec![
         Scenario::new("wider-at-once", all_taken, [make, make], two_segments).bounded(2),
+        Scenario::new("wider-last", all_of_two, [make, make], two_segments).bounded(2),
         Scenario::new(
             "wider-and-look",
             all_taken,
@@ -52,7 +53,12 @@ fn all_taken() -> World {
     growing(TAKEN)
 }
 
-/// The same, and one of them is full.
+/// The same, where one more segment may be opened.
+fn all_of_two() -> World {
+    growing_by(Growth::new().most_segments(2), TAKEN)
+}
+
+/// The same as the first, and one of them is full.
 fn full_lane() -> World {
     let world = all_taken();
     world.by_lane(0, |lane| {

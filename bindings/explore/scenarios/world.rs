@@ -1,6 +1,6 @@
 //! What scenarios share: an object whose accesses are looked at, and a pool with its lanes.
 use explorer::{reads, writes, Extent, Plan, Report, Work};
-use pardz::{Census, Clear, Key, Lane, Plain, Pool, Shape};
+use pardz::{Census, Clear, Growth, Key, Lane, Plain, Pool, Shape};
 use std::sync::atomic::{AtomicBool, AtomicUsize, Ordering::SeqCst};
 use std::sync::{Arc, Mutex};
 
@@ -197,7 +197,12 @@ pub fn lanes_in_hand(shape: Shape, published: usize) -> World {
 
 /// A growing pool of which so many lanes are in hand.
 pub fn growing(lanes: usize) -> World {
-    World::of(Pool::growing().expect("memory"), lanes)
+    growing_by(Growth::new(), lanes)
+}
+
+/// One that grows so.
+pub fn growing_by(growth: Growth, lanes: usize) -> World {
+    World::of(growth.open().expect("memory"), lanes)
 }
 
 /// A pool of which all lanes are at home.

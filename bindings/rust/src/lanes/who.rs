@@ -256,9 +256,10 @@ impl<T: Clear> Room<T> {
     /// The same for a create: where all lanes are had, it has a segment with more lanes opened. (Each time that it finds none all the same,
     /// another thread took one. A thread without memory to note its lane finds none ever.)
     pub(super) fn caller_for_create(&self) -> Caller<'_, T> {
+        let is_first = !threads::shares(self.id());
         for _ in 0..MOST_LANES {
             match self.caller() {
-                Caller::Sharing if self.widens() => (),
+                Caller::Sharing if self.widens(is_first) => (),
                 caller => return caller,
             }
         }
@@ -326,16 +327,18 @@ impl<T: Clear> Room<T> {
         number.or_else(|| self.take_shared_back(these))
     }
 
-    /// Has a segment with more lanes opened for a thread that finds none for itself. Whether there may be one now.
+    /// Has a segment with more lanes opened for a thread that finds none for itself. Whether there may be one now: also where there are as many
+    /// as may be, but another thread made them so since this one looked for the first time.
     #[cold]
     #[inline(never)]
-    fn widens(&self) -> bool {
+    fn widens(&self, is_first: bool) -> bool {
         let count = self.lanes.count();
-        if threads::has_ended() || !self.may_widen(count) {
+        let may_widen = self.may_widen(count);
+        if threads::has_ended() || !may_widen && !is_first {
             return false;
         }
         // (Under the lock: where another thread counts new lanes just now, they are at home then.)
-        self.locked(|| !self.lanes.none_is_home()) || self.widen(count)
+        self.locked(|| !self.lanes.none_is_home()) || may_widen && self.widen(count)
     }
 
     /// Lanes that were in hand come home. What they have yet was leaked, for all that they gave borrowed them.
