@@ -163,6 +163,29 @@ fn a_lane_is_kept_while_the_handle_that_had_it_ends() {
     assert!(held.is_some());
 }
 
+/// A lane that is lent is left, shared, and has a user. Both handles outlive the pool, and what is let go of last is emptied behind the lock.
+#[test]
+fn a_guest_and_a_user_of_a_lane_outlive_the_pool() {
+    let _limit = limit();
+    let pool = Pool::<Slow>::growing().expect("memory");
+    let lends = || {
+        let key = pool.create().expect("a place").publish();
+        (0..FIRST).for_each(|_| drop(pool.create_owned()));
+        let guest = pool.get_owned(key).expect("published");
+        assert!(pool.clear(key));
+        guest
+    };
+    let guest = thread::scope(|scope| scope.spawn(lends).join().expect("no panic"));
+    let own = lane_of(guest.key());
+    let create = || pool.create_owned().expect("a place");
+    let mut users =
+        (0..64).map(|_| thread::scope(|scope| scope.spawn(create).join().expect("no panic")));
+    let user = users.find(|user| lane_of(user.key()) == own);
+    drop(pool);
+    drop(user.expect("the lane is shared"));
+    drop(guest);
+}
+
 #[test]
 fn a_thread_lends_again_behind_a_pool_that_ended() {
     let _limit = limit();

@@ -43,7 +43,7 @@ impl<'s, T: Clear, const IS_EMPTY: bool> Emptying<'s, T, IS_EMPTY> {
 impl<'s, T: Clear, const IS_EMPTY: bool> Emptying<'s, T, IS_EMPTY> {
     /// What the call takes out is for the lane `by` to empty, which is told so.
     #[inline(always)]
-    fn empty_by(self, by: Post<'s, T>, object: &mut Placed<T>) {
+    fn empty_by(self, by: Post<'s, T>, place: NonNull<Placed<T>>) {
         let (post, home) = (self.post, self.key.shard());
         let is_own = home == post.number();
         if !T::plain().0 && !IS_EMPTY {
@@ -54,15 +54,15 @@ impl<'s, T: Clear, const IS_EMPTY: bool> Emptying<'s, T, IS_EMPTY> {
             };
             // SAFETY: as in `turn`; and it is that lane, or promised by who made an `EmptyingBy`.
             let mut by = unsafe { Turn::of(by) };
-            if !hazard.begin(object) {
+            if !hazard.begin(place) {
                 // SAFETY: the call reclaimed the place, so that its object is this thread's.
-                return unsafe { by.take_apart(home, object) };
+                return unsafe { by.take_apart(home, place) };
             }
             // SAFETY: it began with the place of a published key, which has an object.
             unsafe { by.take_out(home, hazard) };
         }
         if is_own && Placed::<T>::MOVES {
-            self.turn().store().warm = Some(NonNull::from(object));
+            self.turn().store().warm = Some(place);
         }
     }
 
@@ -71,9 +71,8 @@ impl<'s, T: Clear, const IS_EMPTY: bool> Emptying<'s, T, IS_EMPTY> {
     fn retire_by(self, by: Post<'s, T>, object: Placed<T>) {
         // SAFETY: it is the object of the key's place, which the call reclaimed.
         let place = unsafe { self.turn().put_back(self.key, object) };
-        if let (Some(mut place), false) = (place, T::plain().0) {
-            // SAFETY: nobody else reaches it before the close, but by the hazard.
-            self.empty_by(by, unsafe { place.as_mut() });
+        if let (Some(place), false) = (place, T::plain().0) {
+            self.empty_by(by, place);
             self.turn().store().warm = None;
         }
     }
@@ -82,7 +81,7 @@ impl<'s, T: Clear, const IS_EMPTY: bool> Emptying<'s, T, IS_EMPTY> {
 impl<T: Clear, const IS_EMPTY: bool> Emptier<Placed<T>> for Emptying<'_, T, IS_EMPTY> {
     #[inline(always)]
     fn empty(&mut self, object: &mut Placed<T>) {
-        self.empty_by(self.post, object);
+        self.empty_by(self.post, NonNull::from(object));
     }
 
     #[inline(always)]
@@ -119,7 +118,7 @@ impl<'s, T: Clear> EmptyingBy<'s, T> {
 impl<T: Clear> Emptier<Placed<T>> for EmptyingBy<'_, T> {
     #[inline(always)]
     fn empty(&mut self, object: &mut Placed<T>) {
-        self.emptying.empty_by(self.by, object);
+        self.emptying.empty_by(self.by, NonNull::from(object));
     }
 
     #[inline(always)]

@@ -33,12 +33,12 @@ impl<T> Hazard<T> {
 
     /// The object of a place is to be emptied from now on, if no other one is. Whether it is so.
     #[inline(always)]
-    pub(super) fn begin(&self, place: &mut Placed<T>) -> bool {
+    pub(super) fn begin(&self, place: NonNull<Placed<T>>) -> bool {
         if self.is_set() {
             return false;
         }
         // (With a release, so that who finds it here knows that those before are empty.)
-        self.place.store(place, Ordering::Release);
+        self.place.store(place.as_ptr(), Ordering::Release);
         true
     }
 

@@ -48,6 +48,16 @@ impl<T> Opened<T> {
         grid.table.shared.fetch_ahead(grid.links + start as usize);
     }
 
+    /// Where a place of the pool stands.
+    ///
+    /// # Safety
+    ///
+    /// The pool has a place that stands there.
+    pub(super) unsafe fn place_at(&self, start: u32) -> NonNull<Placed<T>> {
+        // SAFETY: the caller's.
+        unsafe { NonNull::new_unchecked(self.pool.grid.objects.ptr.add(start as usize)) }
+    }
+
     /// Its lanes, by their numbers.
     pub(super) fn lanes(&mut self) -> impl Iterator<Item = ProvedLane<T>> + '_ {
         self.row.drain()

@@ -12,7 +12,7 @@ use crate::object::{Chain, Placed};
 use crate::sync::{self, AtomicU32, Ordering};
 use std::cell::UnsafeCell;
 use std::marker::PhantomData;
-use std::mem::ManuallyDrop;
+use std::mem::{self, ManuallyDrop};
 use std::ptr::{self, NonNull};
 
 /// A lane of the proved pool, on lines of the cache of its own.
@@ -85,11 +85,12 @@ impl Joint {
         self.users += 1;
     }
 
-    /// A user less. Whether the lane lets go of the pool's memory.
+    /// A user less. Whether the lane lets go of the pool's memory: once, though one may come behind that, since the handle to which the lane is
+    /// lent has a share of its own.
     #[inline(always)]
     pub(super) fn leave(&mut self) -> bool {
         self.users -= 1;
-        self.users == 0 && self.is_left
+        self.users == 0 && mem::take(&mut self.is_left)
     }
 
     /// Whether the lane, which has so many fillings and references, has no user, and nothing that isn't leaked.

@@ -207,9 +207,9 @@ impl<'s, T: Clear, P: Stands<'s, T>> Turn<'s, T, P> {
     ///
     /// The place is the caller's alone.
     #[cold]
-    pub(super) unsafe fn take_apart(&mut self, home: u32, place: &mut Placed<T>) {
+    pub(super) unsafe fn take_apart(&mut self, home: u32, place: NonNull<Placed<T>>) {
         // SAFETY: the caller's.
-        let Some(object) = (unsafe { Placed::take(NonNull::from(place)) }) else {
+        let Some(object) = (unsafe { Placed::take(place) }) else {
             return;
         };
         let at = self.post().segment().apart(self.post().number());
@@ -328,10 +328,10 @@ impl<'s, T: Clear, P: Stands<'s, T>> Turn<'s, T, P> {
     #[inline(always)]
     pub(super) unsafe fn begun<W: By<T>>(&mut self, key: Key, start: u64) -> Begun<'s, T, W> {
         // SAFETY: the caller's.
-        let object = unsafe { self.place(start as u32).as_ref().address() };
+        let object = unsafe { Placed::object(self.place(start as u32)).unwrap_unchecked() };
         let (post, way) = (self.post(), W::of(self.at.segment()));
         // SAFETY: as above.
-        unsafe { Begun::from_words(post, (object, key, start), way) }
+        unsafe { Begun::from_words(post, (NonNull::from(object), key, start), way) }
     }
 
     /// What a filling that ends is made of.
@@ -359,8 +359,11 @@ impl<'s, T: Clear, P: Stands<'s, T>> Turn<'s, T, P> {
         key: Key,
         object: Placed<T>,
     ) -> Option<NonNull<Placed<T>>> {
-        let spot = self.at.segment().proved().pool.find(key.into())?;
-        let place = self.place(spot.start);
+        // (By the pool alone, since the call under way has the lane.)
+        let opened = self.at.segment().proved();
+        let spot = opened.pool.find(key.into())?;
+        // SAFETY: it is one of the pool's.
+        let place = unsafe { opened.place_at(spot.start) };
         // SAFETY: the place is one of the pool's, and nobody else reaches its object before the close. (It has none now.)
         unsafe { place.as_ptr().write(object) };
         Some(place)

@@ -106,6 +106,9 @@ impl<T> Placed<T> {
     /// Both are the caller's alone, and of opened pages.
     #[inline(always)]
     pub(crate) unsafe fn change(at: NonNull<Self>, other: NonNull<Self>) {
+        if at == other {
+            return;
+        }
         sync::writes(at.as_ptr(), PLACE);
         sync::writes(other.as_ptr(), PLACE);
         let (size, both) = (mem::size_of::<Self>(), [at, other]);

@@ -302,7 +302,8 @@ impl<T> IntoIterator for Vec<T> {
     fn into_iter(self) -> IntoIter<T> {
         let mut row = ManuallyDrop::new(self);
         IntoIter {
-            at: NonNull::from(&mut **row.items).cast(),
+            // (By which the memory is freed, that behind the items too.)
+            at: NonNull::new(row.items.as_mut_ptr()).expect("no vector's is null"),
             capacity: if row.is_part { 0 } else { row.items.capacity() },
             left: 0..row.items.len(),
             unwritten: row.unwritten,
