@@ -106,6 +106,28 @@ fn further_lanes_are_lent() {
 }
 
 /// The lanes that may be taken in hand are in all segments, so that their calls never wait.
+/// In a pool with more lanes than its first segment has.
+#[test]
+fn a_lane_in_hand_takes_three_further_ones() {
+    let _limit = limit();
+    for taken in [1, 4] {
+        let pool = growing();
+        lanes_of_threads(&pool, 20);
+        let hands: Vec<_> = (0..taken).map_while(|_| pool.lane()).collect();
+        let put = |_| {
+            hands[0]
+                .create_with(|object| object.0 = 1)
+                .expect("a place")
+        };
+        let keys = (0..5 * 13_472).map(put);
+        let lanes: BTreeSet<u64> = keys.map(lane_of).collect();
+        // (Where eight stay at home, of those that may be taken in hand, it takes none.)
+        assert_eq!(lanes.len(), if taken == 1 { 4 } else { 1 });
+        let others: Vec<_> = (0..12).map_while(|_| pool.lane()).collect();
+        assert_eq!(others.len(), 8);
+    }
+}
+
 #[test]
 fn a_lane_in_hand_is_in_each_segment() {
     let _limit = limit();

@@ -151,9 +151,9 @@ impl Lanes {
         self.home.load(Ordering::Relaxed).count_ones() > self.few
     }
 
-    /// Whether more than twice as many are, as of this look.
+    /// Whether more than twice as many are of those that may be taken in hand, as of this look. (Of twelve, one in hand takes three, then.)
     pub(super) fn are_most_home(&self) -> bool {
-        self.home.load(Ordering::Relaxed).count_ones() > 2 * self.few
+        (self.home.load(Ordering::Relaxed) & self.everywhere).count_ones() > 2 * self.few
     }
 
     /// Whether a lane is at home, as of this look.
