@@ -106,14 +106,29 @@ fn further_lanes_are_lent() {
 }
 
 /// The lanes that may be taken in hand are in all segments, so that their calls never wait.
-/// In a pool with more lanes than its first segment has.
+/// Where none of those is at home, it keeps its own.
+#[test]
+fn a_thread_changes_to_a_lane_that_all_segments_have() {
+    let _limit = limit();
+    let pool = growing();
+    let own = lane_of(put(&pool, 1));
+    lanes_of_threads(&pool, 20);
+    let hands: Vec<_> = (0..12).map_while(|_| pool.lane()).collect();
+    assert_eq!((own, hands.len()), (0, 11));
+    // (It has segments opened first, as many lanes are had.)
+    let mut lanes = (0..200_000).map(|number| lane_of(put(&pool, number)));
+    let beside = lanes.find(|lane| *lane != own).expect("its lane is full");
+    assert!(beside < 16 && lanes.take(2000).all(|lane| lane < 16));
+}
+
+/// In a pool with more lanes than its first segment has, of threads that have ended.
 #[test]
 fn a_lane_in_hand_takes_three_further_ones() {
     let _limit = limit();
     for taken in [1, 4] {
         let pool = growing();
-        lanes_of_threads(&pool, 20);
         let hands: Vec<_> = (0..taken).map_while(|_| pool.lane()).collect();
+        lanes_of_threads(&pool, 20);
         let put = |_| {
             hands[0]
                 .create_with(|object| object.0 = 1)

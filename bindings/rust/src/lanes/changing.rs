@@ -10,11 +10,12 @@ impl<T: Clear> Room<T> {
     #[cold]
     pub(super) fn changes_lane<'s>(&'s self, own: &mut Own<'s, T>) -> bool {
         debug_assert_eq!(threads::kept(self.id()), Some(own.post().number()));
-        if !self.may_share(own.post().number()) {
+        let left = own.post().number();
+        if !self.may_share(left) {
             return false;
         }
         // SAFETY: so it was looked just now; and whose `own` it was has the other one then.
-        let Some(number) = (unsafe { self.change() }) else {
+        let Some(number) = (unsafe { self.change(left) }) else {
             return false;
         };
         let post = self.last_post(number).expect("a segment is open");
@@ -42,10 +43,10 @@ impl<T: Clear> Room<T> {
     ///
     /// # Safety
     ///
-    /// The thread has nothing of its own lane, and no call further out on the stack has that.
-    unsafe fn change(&self) -> Option<u32> {
+    /// The thread has nothing of its own lane, which has this number, and no call further out on the stack has that.
+    unsafe fn change(&self, left: u32) -> Option<u32> {
         self.locked(|| {
-            let other = self.lanes.take_home()?;
+            let other = self.lanes.take_other(left)?;
             let number = other.get();
             // SAFETY: the caller's.
             match unsafe { threads::change(self.id(), other) } {

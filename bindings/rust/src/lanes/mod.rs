@@ -26,6 +26,7 @@ mod emptying;
 mod far;
 mod give_back;
 mod hazard;
+mod homes;
 mod in_hand;
 mod kept;
 mod lent;

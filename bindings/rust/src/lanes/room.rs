@@ -266,8 +266,12 @@ impl<T: Clear> Room<T> {
 
     /// Such a lane, for who has some in hand that are full: as long as most are at home, since nobody takes it back.
     pub(super) fn take_further(&self, count: usize) -> Option<Number> {
-        let takes = self.grows() && uses_home_behind(count) && self.lanes.are_most_home();
-        takes.then(|| self.lanes.take_home())?
+        if !self.grows() || !uses_home_behind(count) {
+            return None;
+        }
+        // (Lanes of threads that have ended are nobody's.)
+        self.welcome_back();
+        self.lanes.take_further()
     }
 
     /// Opens a further segment, unless there are other than so many by now. Where another thread opens one, it waits a while for that:

@@ -1,5 +1,6 @@
 //! What a thread knows of its lanes: of each pool one, which it took at its first call, and keeps until it ends or has another in its place.
-use super::who::{Homes, Number};
+use super::homes::Homes;
+use super::who::Number;
 use crate::object::Counted;
 use crate::sync::{thread_local, Counter};
 use std::cell::{Cell, RefCell};

@@ -3,6 +3,7 @@
 //! A lane is at home, where nobody has it; or in hand; or kept by a thread, until that ends or has another in its place; or left by a thread
 //! that ended, until the pool sees it; or shared by all threads, each call under a lock. Whose it is it is in all segments that have it:
 //! those that are opened once threads find no lane have more than those before.
+use super::homes::{Homes, Told};
 use super::own::Own;
 use super::room::Room;
 use super::seat::Post;
@@ -26,7 +27,7 @@ impl Number {
         self.0
     }
 
-    fn bit(&self) -> u64 {
+    pub(super) fn bit(&self) -> u64 {
         1 << self.0
     }
 }
@@ -62,35 +63,6 @@ impl Numbers {
 
     pub(super) fn all(&self) -> impl Iterator<Item = u32> {
         bits(self.all.get())
-    }
-}
-
-/// What outlives a pool, for threads that end after it.
-#[derive(Default)]
-pub(super) struct Homes {
-    /// A bit for each lane whose thread has ended.
-    left: AtomicU64,
-    /// Whether the pool is closed.
-    closed: AtomicBool,
-}
-
-impl Homes {
-    /// The lane's thread ends.
-    pub(super) fn leave(&self, number: Number) {
-        self.left.fetch_or(number.bit(), Ordering::SeqCst);
-    }
-
-    pub(super) fn is_closed(&self) -> bool {
-        self.closed.load(Ordering::Relaxed)
-    }
-}
-
-/// Tells the threads that a pool is closed.
-struct Told(Counted<Homes>);
-
-impl Drop for Told {
-    fn drop(&mut self) {
-        self.0.closed.store(true, Ordering::Relaxed);
     }
 }
 
@@ -151,9 +123,23 @@ impl Lanes {
         self.home.load(Ordering::Relaxed).count_ones() > self.few
     }
 
-    /// Whether more than twice as many are of those that may be taken in hand, as of this look. (Of twelve, one in hand takes three, then.)
-    pub(super) fn are_most_home(&self) -> bool {
-        (self.home.load(Ordering::Relaxed) & self.everywhere).count_ones() > 2 * self.few
+    /// How many are at home that all segments have, as of this look.
+    fn everywhere_home(&self) -> u32 {
+        (self.home.load(Ordering::Relaxed) & self.everywhere).count_ones()
+    }
+
+    /// One of them for who has one in hand that is full, as long as more than twice as many are at home as are shared where calls need it. (So of
+    /// twelve one in hand takes three.)
+    pub(super) fn take_further(&self) -> Option<Number> {
+        let are_most_home = self.everywhere_home() > 2 * self.few;
+        are_most_home.then(|| self.take_home_of(self.everywhere))?
+    }
+
+    /// One of them for a thread that leaves such a one, which is full, as long as more are at home than are shared where calls need it.
+    pub(super) fn take_other(&self, full: u32) -> Option<Number> {
+        let is_everywhere = self.everywhere & Number(full).bit() != 0;
+        let may = is_everywhere && self.everywhere_home() > self.few;
+        may.then(|| self.take_home_of(self.everywhere))?
     }
 
     /// Whether a lane is at home, as of this look.
@@ -192,7 +178,7 @@ impl Lanes {
     }
 
     /// Takes a lane that is at home.
-    pub(super) fn take_home(&self) -> Option<Number> {
+    fn take_home(&self) -> Option<Number> {
         self.take_home_of(u64::MAX)
     }
 
@@ -334,7 +320,7 @@ impl<T: Clear> Room<T> {
     fn widens(&self, is_first: bool) -> bool {
         let count = self.lanes.count();
         let may_widen = self.may_widen(count);
-        if threads::has_ended() || !may_widen && !is_first {
+        if threads::has_ended() || !self.grows() || !may_widen && !is_first {
             return false;
         }
         // (Under the lock: where another thread counts new lanes just now, they are at home then.)
