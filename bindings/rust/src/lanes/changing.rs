@@ -7,11 +7,16 @@ use crate::clear::Clear;
 
 impl<T: Clear> Room<T> {
     /// The thread leaves its own lane, which is shared from now on, and has one that nobody had: `own` is that then. Whether it did.
+    ///
+    /// # Safety
+    ///
+    /// The thread keeps the lane, and a create is under way.
     #[cold]
-    pub(super) fn changes_lane<'s>(&'s self, own: &mut Own<'s, T>) -> bool {
-        debug_assert_eq!(threads::kept(self.id()), Some(own.post().number()));
+    pub(super) unsafe fn changes_lane<'s>(&'s self, own: &mut Own<'s, T>) -> bool {
         let left = own.post().number();
-        if !self.may_share(left) {
+        debug_assert_eq!(threads::kept(self.id()), Some(left));
+        // SAFETY: the caller's.
+        if !unsafe { self.may_share(left) } {
             return false;
         }
         // SAFETY: so it was looked just now; and whose `own` it was has the other one then.
@@ -28,7 +33,11 @@ impl<T: Clear> Room<T> {
 
     /// Whether the thread may leave its own lane of this number: it has nothing of it, and no call has it further out on the stack than the
     /// create that is under way.
-    fn may_share(&self, number: u32) -> bool {
+    ///
+    /// # Safety
+    ///
+    /// The thread keeps the lane of this number.
+    unsafe fn may_share(&self, number: u32) -> bool {
         let is_unused = |post: Post<'_, T>| {
             // SAFETY: the thread has the lane alone.
             let mut turn = unsafe { post.turn() };

@@ -217,7 +217,8 @@ impl<'p, T: Clear> Hand<'p, T> {
         if !self.numbers.has(shard) {
             return self.own_elsewhere(key).is_some_and(|own| own.clear(key));
         }
-        let Some(own) = self.own_of(shard, key) else {
+        // SAFETY: so it was looked just now.
+        let Some(own) = (unsafe { self.own_of(shard, key) }) else {
             return false;
         };
         self.had_place(own.post(), NonNull::from(own.segment()));
@@ -229,12 +230,17 @@ impl<'p, T: Clear> Hand<'p, T> {
     /// The lane in the segment of a key.
     #[inline]
     fn own_elsewhere(&self, key: Key) -> Option<Own<'_, T, Near<'_, T>>> {
-        self.own_of(self.number(), key)
+        // SAFETY: it is the first of its own.
+        unsafe { self.own_of(self.number(), key) }
     }
 
-    /// The lane of this number, which is one of its own, in the segment of a key.
+    /// The lane of this number in the segment of a key.
+    ///
+    /// # Safety
+    ///
+    /// It is one of its own.
     #[inline]
-    fn own_of(&self, number: u32, key: Key) -> Option<Own<'_, T, Near<'_, T>>> {
+    unsafe fn own_of(&self, number: u32, key: Key) -> Option<Own<'_, T, Near<'_, T>>> {
         debug_assert!(self.numbers.has(number));
         let segment = self.room().segment_with(key)?;
         // SAFETY: who has the number has the lane alone, in each segment; the hand is borrowed, and on one thread.

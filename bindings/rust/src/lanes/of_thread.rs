@@ -161,7 +161,8 @@ impl<T: Clear> Room<T> {
             }
             if is_full && self.uses_home_first(count) {
                 match self.create_in_left() {
-                    Err(CreateError::Full) if self.changes_lane(own) => continue,
+                    // SAFETY: it is the thread's own lane.
+                    Err(CreateError::Full) if unsafe { self.changes_lane(own) } => continue,
                     Err(CreateError::Full) => (),
                     created => return created,
                 }
