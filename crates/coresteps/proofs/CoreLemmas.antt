@@ -371,7 +371,7 @@ module _ (old new : Shared) (w : World) (most : ℕ → Most) (lanes : List Lane
   turn_rest = rest_turn old.shape w t k.resting is turn_kept
 
   pub turn_stands : Stands old.shape (world_after old.shape w t)
-  turn_stands = stands old.shape (world_after old.shape w t) turn_kept.holds turn_rest
+  turn_stands = stands old.shape k.alone (world_after old.shape w t) turn_kept.holds turn_rest
 
   pub turn_legal : IsLegal old.shape (world_after old.shape w t).history
   turn_legal = turn_kept.holds.rule.legal
@@ -422,6 +422,7 @@ module _ (old new : Shared) (w : World) (most : ℕ → Most) (lanes : List Lane
       lane = λ n l e. subst (λ (z : Shape). IsLaneAt z (world_after old.shape w t).history n l l.progress ((world_after old.shape w t).books n)) (sym shape) (each_lane n l e);
       settled = each (λ n l. l.progress.own.added ≡ None) settled (λ n l other e. k.settled n l e);
       most_is = each_most;
+      alone = ap (λ (z : Shape). z.guests) shape ∙ k.alone;
       bounded = λ n. subst (λ (z : Shape). IsBounded z.lanes (most_after old.shape w t most n)) (sym shape)
           (either (eqb n t.lane) (counted_step (book_before old.shape w t) t.step (most n)) (most n)
           (turn_bounded old.shape w t (most n) k.draft.kept is (k.bounded n)) (k.bounded n));
@@ -437,6 +438,7 @@ same_core old new w most lanes k shape draft = record {
   lane = λ n l e. subst (λ (z : Shape). IsLaneAt z w.history n l l.progress (w.books n)) (sym shape) (k.lane n l e);
   settled = k.settled;
   most_is = k.most_is;
+  alone = ap (λ (z : Shape). z.guests) shape ∙ k.alone;
   bounded = λ n. subst (λ (z : Shape). IsBounded z.lanes (most n)) (sym shape) (k.bounded n);
   resting = subst (λ (z : Shape). AreResting z w) (sym shape) k.resting;
 }
@@ -583,13 +585,13 @@ first_lane_at z number lane shape ring =
     }
 
 -- the core before the first turn keeps the first world
-pub first_core : (z : Shape) (scripts : List (List Command)) (shared : Shared) (lanes : List Lane) → IsShape z → z.last_generation < 2 ^ 32
+pub first_core : (z : Shape) (scripts : List (List Command)) (shared : Shared) (lanes : List Lane) → IsShape z → z.guests ≡ 0 → z.last_generation < 2 ^ 32
     → length scripts ≡ z.lanes → shared.shape ≡ z → IsTable z first_words shared.words → length shared.published.items ≡ all_places z → shared.acts.items ≡ []
     → length lanes ≡ length scripts
     → ((number : ℕ) (lane : Lane) → slice_get lanes number ≡ Some lane
     → (slice_get scripts number ≡ Some lane.script) × (lane.ring.items ≡ replicate (shard_places z) 0) × (lane.progress ≡ first_progress))
     → IsCoreAt (first_world scripts) (λ _. no_most) shared lanes
-first_core z scripts shared lanes shape wide count same table published none long each = record {
+first_core z scripts shared lanes shape none_such wide count same table published none long each = record {
   draft = record {
     kept = subst (λ (y : Shape). IsKept y (first_world scripts)) (sym same) (keeps_first z scripts shape wide);
     history = sym none ∙ sym (append-nil shared.acts.items);
@@ -606,6 +608,7 @@ first_core z scripts shared lanes shape wide count same table published none lon
       (λ i. (sym same i, sym facts.2 i, ap script_or_none (sym facts.0) i)) (first_lane_at z number lane shape facts.1);
   settled = λ number lane got. ap (λ (p : Progress). p.own.added) (each number lane got).2;
   most_is = λ number lane got. ap (λ (p : Progress). p.most) (each number lane got).2;
+  alone = ap (λ (y : Shape). y.guests) same ∙ none_such;
   bounded = λ number. (omega arith, omega arith);
   resting = first_rest shared.shape scripts;
 }
@@ -642,7 +645,7 @@ stands_more z w (t ∷ ts) u a st = (a.0, stands_more z (world_after z w t) ts u
 
 -- the facts stand of what a core keeps
 pub core_stands : (z : Shape) (w : World) (most : ℕ → Most) (core : CoreState) → core.shared.shape ≡ z → IsCore w most core → Stands z w
-core_stands z w most core e k = subst (λ (y : Shape). Stands y w) e (stands core.shared.shape w k.draft.kept.holds k.resting)
+core_stands z w most core e k = subst (λ (y : Shape). Stands y w) e (stands core.shared.shape k.alone w k.draft.kept.holds k.resting)
 
 -- and its history is legal
 pub core_legal : (z : Shape) (w : World) (most : ℕ → Most) (core : CoreState) → core.shared.shape ≡ z → IsCore w most core → IsLegal z w.history

@@ -141,6 +141,7 @@ pub record IsWorked (shared : Shared) (w : World) (made : Option Made) (number :
 -- what the core keeps: of the world, and for each lane the greatest numbers of steps
 pub record IsCoreAt (w : World) (most : ℕ → Most) (shared : Shared) (lanes : List Lane) : Type 0 where
   pub draft : IsDraft shared w None
+  pub alone : shared.shape.guests ≡ 0
   pub count : length lanes ≡ shared.shape.lanes
   pub lane : (number : ℕ) (lane : Lane) → slice_get lanes number ≡ Some lane
       → IsLaneAt shared.shape w.history number lane lane.progress (w.books number)

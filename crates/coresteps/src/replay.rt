@@ -49,6 +49,7 @@ impl Core {
     /// The core of these scripts, one for each lane, before the first turn. Memory (25) where it was refused.
     pub fn new(alloc: Global, shape: Shape, scripts: Vec<Script>) -> Result<Core, CoreFault>
         requires shape { IsShape shape }
+        requires alone { shape.guests ≡ 0 }
         requires scripts { length scripts.items ≡ shape.lanes }
         ensures kept { IfOk result (λ core. IsCore (first_world scripts.items) (λ _. no_most) core) }
         ensures shape { IfOk result (λ core. core.shared.shape ≡ shape) }
@@ -320,6 +321,7 @@ pub fn run(
     schedule: &[u32],
 ) -> Result<Trace, CoreFault>
     requires shape { IsShape shape }
+    requires alone { shape.guests ≡ 0 }
     requires scripts { length scripts.items ≡ shape.lanes }
     ensures lawful { IfOk result (λ trace. IsLawful shape scripts.items schedule.now trace) }
 

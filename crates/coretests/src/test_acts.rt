@@ -9,7 +9,7 @@ fn makes<R: Abort + AllocGlobal>(rt: &R, text: &[u8], made: usize, fault: u32) {
     let (shape, acts) = read_acts(rt.alloc(), text)
         .ok()
         .expect(rt, "a text of acts");
-    shape.check().ok().expect(rt, "a shape");
+    assert!(rt; shape.guests == 0 && shape.check().is_ok());
     let mut pool = SeqPool::new(rt.alloc(), shape)
         .ok()
         .expect(rt, "memory for a pool");

@@ -24,11 +24,14 @@ const RETURNS_SCHEDULE: [u32; 24] = [
 /// The shape of a script file, and a script for each of its lanes.
 fn plan_of<R: Abort + AllocGlobal>(rt: &R, file: &str) -> (Shape, Vec<Script>)
     ensures shape { IsShape result.0 }
+    ensures alone { result.0.guests ≡ 0 }
     ensures lanes { length result.1.items ≡ result.0.lanes }
 {
     let Plan { shape, scripts } = parse(rt.alloc(), file.as_bytes()).expect(rt, "a plan");
     let scripts = scripts.into_vec();
-    assert!(rt; shape.check().is_ok() && scripts.len() == shape.lanes as usize);
+    assert!(rt;
+        shape.guests == 0 && shape.check().is_ok() && scripts.len() == shape.lanes as usize
+    );
     (shape, scripts)
 }
 

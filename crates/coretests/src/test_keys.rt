@@ -9,6 +9,7 @@ const LARGEST: Shape = Shape {
     pages: 6,
     last_generation: 4294967295,
     tag: 255,
+    guests: 0,
 };
 
 const WIDEST: Shape = Shape {
@@ -23,6 +24,7 @@ const SMALL: Shape = Shape {
     pages: 2,
     last_generation: 3,
     tag: 7,
+    guests: 0,
 };
 
 /// The key of a place and a generation is this number.
@@ -74,7 +76,9 @@ fn faults_have_numbers_and_texts(rt: HostRuntime) {
 
 /// The pages of a shape have these sizes.
 fn has_sizes<R: Abort>(rt: &R, shape: Shape, sizes: &[u32]) {
-    assert!(rt; shape.check_wide().is_ok() && sizes.len() == shape.pages as usize);
+    assert!(rt;
+        shape.guests == 0 && shape.check_wide().is_ok() && sizes.len() == shape.pages as usize
+    );
     for page in 0..shape.pages {
         same_at(rt, &shape.page_size(page), &sizes[page as usize], page);
     }
@@ -82,7 +86,7 @@ fn has_sizes<R: Abort>(rt: &R, shape: Shape, sizes: &[u32]) {
 
 /// A shard of the shape, and the shape, have so many places.
 fn has_places<R: Abort>(rt: &R, shape: Shape, of_shard: u32, of_all: usize) {
-    assert!(rt; shape.check_wide().is_ok());
+    assert!(rt; shape.guests == 0 && shape.check_wide().is_ok());
     same(rt, &shape.shard_places(), &of_shard);
     same(rt, &shape.all_places(), &of_all);
 }
@@ -159,7 +163,7 @@ fn number_of<R: Abort>(rt: &R, place: Place) -> u32 {
 
 /// The place of this number has this index in its shard, and this position in the shape.
 fn stands_at<R: Abort>(rt: &R, shape: &Shape, number: u32, index: usize, position: usize) {
-    assert!(rt; shape.check_wide().is_ok() && shape.is_place(number));
+    assert!(rt; shape.guests == 0 && shape.check_wide().is_ok() && shape.is_place(number));
     let stands = (shape.index(number), shape.position(number));
     same(rt, &stands, &(index, position));
     assert!(rt; position < shape.all_places());

@@ -2,6 +2,7 @@
 use Rattle.std.proofs.Common.{◌≡◌, ◌≢◌, inl, inr, ◌<◌, ℕ, zero, suc, List, [], ◌∷◌, Some, length, take, slice_get, get_or, arith, refl, sym, ap, ◌∙◌, subst}
 use Rattle.std.proofs.lemmas.Option.{slice_get-get_or}
 use Rattle.keybits.specs.declared.shape.Shape.{Shape}
+use Rattle.keybits.specs.Shapes.{callers}
 use Rattle.seqpool.specs.Pool.{Pool, Allowed, LegalFrom, IsLegal, lane_of, after, fresh, pool_from, pool_after}
 use Rattle.seqpool.specs.Refusals.{Wrong, Refused}
 use Rattle.seqpool.specs.declared.act.Act.{Act}
@@ -26,21 +27,21 @@ allowed-not-wrong z P (Home lane place) NotWithLane allowed wrong = wrong allowe
 allowed-not-wrong z P (Collect lane places) NotHome allowed wrong = wrong allowed
 allowed-not-wrong z P act fault allowed wrong = wrong
 
--- the act of this index of a legal history is of a lane of the shape, and allowed behind those before it
+-- the act of this index of a legal history is of a caller of the shape, and allowed behind those before it
 legal-at : (z : Shape) (P : Pool) (history : List Act) (at : ℕ) (act : Act) → LegalFrom z P history → slice_get history at ≡ Some act
-    → (lane_of act < z.lanes) × Allowed z (pool_from z P (take at history)) act
+    → (lane_of act < callers z) × Allowed z (pool_from z P (take at history)) act
 legal-at z P [] at act legal is = absurd (cc is)
 legal-at z P (first ∷ more) zero act legal is =
     let here : first ≡ act = cc is in
-    subst (λ (a : Act). (lane_of a < z.lanes) × Allowed z P a) here (legal.0, legal.1)
+    subst (λ (a : Act). (lane_of a < callers z) × Allowed z P a) here (legal.0, legal.1)
 legal-at z P (first ∷ more) (suc at) act legal is = legal-at z (after z first P) more at act legal.2 is
 
--- the act of this index of a legal history isn't refused
-legal-unrefused : (z : Shape) (history : List Act) (at : ℕ) (act : Act) (fault : ApplyFault) → IsLegal z history → slice_get history at ≡ Some act
+-- the act of this index of a legal history, where there are no guests, isn't refused
+legal-unrefused : (z : Shape) (history : List Act) (at : ℕ) (act : Act) (fault : ApplyFault) → z.guests ≡ 0 → IsLegal z history → slice_get history at ≡ Some act
     → Refused z (pool_after z (take at history)) act fault → ⊥
-legal-unrefused z history at act fault legal is (inl (beyond, _)) =
-    let low = (legal-at z fresh history at act legal is).0 in absurd (omega (arith, low, beyond))
-legal-unrefused z history at act fault legal is (inr (_, wrong)) =
+legal-unrefused z history at act fault alone legal is (inl (beyond, _)) =
+    let low = (legal-at z fresh history at act legal is).0 in absurd (omega (arith, low, alone, beyond))
+legal-unrefused z history at act fault alone legal is (inr (_, wrong)) =
     allowed-not-wrong z (pool_after z (take at history)) act fault (legal-at z fresh history at act legal is).1 wrong
 
 -- what isn't refused for anything else is refused for memory
@@ -50,8 +51,9 @@ only-memory NotWithLane never = absurd (never (λ is. absurd (cc is)))
 only-memory fault never = absurd (never (λ is. absurd (cc is)))
 
 -- a refusal of the act of this index of a legal history is for memory
-pub legal-memory : (z y : Shape) (P : Pool) (history : List Act) (at : ℕ) (act : Act) (fault : ApplyFault) → IsLegal z history → at < length history
+pub legal-memory : (z y : Shape) (P : Pool) (history : List Act) (at : ℕ) (act : Act) (fault : ApplyFault) → z.guests ≡ 0 → IsLegal z history
+    → at < length history
     → act ≡ get_or history at act → y ≡ z → P ≡ pool_after z (take at history) → (fault ≢ Memory → Refused y P act fault) → fault ≡ Memory
-legal-memory z y P history at act fault legal below is shapes pools refused = only-memory fault (λ other.
-    legal-unrefused z history at act fault legal (slice_get-get_or history at act below ∙ ap Some (sym is))
+legal-memory z y P history at act fault alone legal below is shapes pools refused = only-memory fault (λ other.
+    legal-unrefused z history at act fault alone legal (slice_get-get_or history at act below ∙ ap Some (sym is))
     (subst (λ (Q : Pool). Refused z Q act fault) pools (subst (λ (x : Shape). Refused x P act fault) shapes (refused other))))

@@ -12,7 +12,7 @@ most_places = 44992
 
 -- a shape whose shards have these pages; there are as many shards as there can be
 abbrev pub shape_of : ℕ → ℕ → Shape
-shape_of first_page pages = record { lanes = MOST_LANES; first_page = first_page; pages = pages; last_generation = 1; tag = 0 }
+shape_of first_page pages = record { lanes = MOST_LANES; first_page = first_page; pages = pages; last_generation = 1; tag = 0; guests = 0 }
 
 -- the shape is within its limits, and there is a shard of this number
 pub record IsShardOf (shard : ℕ) (z : Shape) : Type 0 where

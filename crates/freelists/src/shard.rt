@@ -33,6 +33,7 @@ impl Shard {
             pages,
             last_generation: 1,
             tag: 0,
+            guests: 0,
         };
         Shard { number, shape }
     }

@@ -11,7 +11,7 @@ use Rattle.poolsteps.specs.Views.{the_lane}
 use Rattle.shardpool.specs.Tokens.{PoolOf, LaneOf}
 use Rattle.shardpool.specs.Lanes.{Owns, refs}
 use Rattle.shardpool.specs.Opened.{AreFirstLanes}
-use Rattle.shardpool.specs.Places.{held_after}
+use Rattle.seatcalls.specs.Left.{held_after}
 use Rattle.shardpool.specs.Closings.{AreLanes}
 use Rattle.poollaws.specs.Cleared.{cleared_in, cleared_by, AreAmong}
 use Rattle.poollaws.proofs.Clearing.{none-among, among-none, among-before, among-behind}
@@ -73,8 +73,9 @@ module _ (pool : PoolOf) (row : List LaneOf) (slots : List (Option LaneOf)) (is 
   in-row : (number : ℕ) (lane : LaneOf) → slice_index_or slots number None ≡ Some lane → slice_get row number ≡ Some lane
   in-row number lane at = stood row number lane (ap (λ (xs : List (Option LaneOf)). slice_index_or xs number None) (sym is) ∙ at)
 
-  pub first-slots : AreSlots (record { pool = pool; slots = slots })
-  first-slots = record {
+  pub first-slots : pool.shape.guests ≡ 0 → AreSlots (record { pool = pool; slots = slots })
+  first-slots alone = record {
+    alone = alone;
     count = ap length is ∙ (length-map row Some ∙ firsts.count);
     each = λ number lane at. let first = firsts.each number lane (in-row number lane at) in (first.owned, first.number_is);
   }
@@ -109,6 +110,7 @@ module _ (lanes : LanesOf) (number : ℕ) (slot : Option LaneOf) (lane : LaneOf)
 
   pub given-slots : AreSlots lanes → Owns lanes.pool lane → number ≡ lane.number → AreSlots (record { pool = lanes.pool; slots = slice_set lanes.slots number slot })
   given-slots are own is = record {
+    alone = are.alone;
     count = length-set lanes.slots number slot ∙ are.count;
     each = λ other found at. dite (ℕ_discrete other number)
         (λ same. subst (λ (l : LaneOf). Owns lanes.pool l × (l.number ≡ other)) (same-lane other found at same) (own, sym is ∙ sym same))
@@ -153,6 +155,7 @@ module _ (lanes : LanesOf) (number : ℕ) (slot : Option LaneOf) (low : number <
 
   pub taken-slots : AreSlots lanes → AreSlots (record { pool = lanes.pool; slots = slice_set lanes.slots number slot })
   taken-slots are = record {
+    alone = are.alone;
     count = length-set lanes.slots number slot ∙ are.count;
     each = λ other found at. are.each other found (stayed other found at);
   }
@@ -196,6 +199,7 @@ are-lanes lanes row are is =
     let in-slot : (number : ℕ) (lane : LaneOf) → slice_get row number ≡ Some lane → lane_at lanes number ≡ Some lane =
     λ number lane at. ap (λ (xs : List (Option LaneOf)). slice_index_or xs number None) is ∙ stands row number lane at in
     let count : length row ≡ lanes.pool.shape.lanes = sym (length-map row Some) ∙ (ap length (sym is) ∙ are.count) in record {
+      alone = are.alone;
       count = count;
       owned = λ index lane at. (are.each index lane (in-slot index lane at)).0;
       all = λ number low. ⊎_elim

@@ -14,8 +14,9 @@ pub record LanesOf : Type 0 where
 abbrev pub lane_at : LanesOf → ℕ → Option LaneOf
 lane_at lanes number = slice_index_or lanes.slots number None
 
--- there is a slot for each number, and a lane stands in that of its own
+-- the pool has no guests, there is a slot for each number, and a lane stands in that of its own
 pub record AreSlots (lanes : LanesOf) : Type 0 where
+  pub alone : lanes.pool.shape.guests ≡ 0
   pub count : length lanes.slots ≡ lanes.pool.shape.lanes
   pub each : (number : ℕ) (lane : LaneOf) → lane_at lanes number ≡ Some lane → Owns lanes.pool lane × (lane.number ≡ number)
 

@@ -64,12 +64,13 @@ pub struct Missing<T: Clear> {
     pub opened: Opened<T>,
 }
 
-/// Opens a pool of this shape, as `shardpool::open` does, with all its lanes.
+/// Opens a pool of this shape, which has no guests, as `shardpool::open` does, with all its lanes.
 ///
 /// # Errors
 ///
 /// The first fault of the shape; and the want of memory, for a shape within its limits alone.
 pub fn open_lanes<T: Clear + Drop>(alloc: Global, shape: Shape) -> Result<Opened<T>, OpenFault>
+    requires { shape.guests ≡ 0 }
     ensures faults { (fault : Fault) → IsErrOf result (faults.Shape fault) ↔ IsFirstFault shape fault }
     ensures memory { IsErrOf result faults.Memory → IsNarrow shape }
     ensures shape { IfOk result (λ opened. (opened.pool.shape ≡ shape) × (opened.lanes.pool ≡ opened.pool)) }
@@ -81,12 +82,13 @@ pub fn open_lanes<T: Clear + Drop>(alloc: Global, shape: Shape) -> Result<Opened
     try_open(alloc, shape).ok_or(OpenFault::Memory)
 }
 
-/// Opens a pool of this shape, as `shardpool::open_wide` does, with all its lanes.
+/// Opens a pool of this shape, which has no guests, as `shardpool::open_wide` does, with all its lanes.
 ///
 /// # Errors
 ///
 /// The first fault of the shape, by the wide limits; and the want of memory, for a shape within them alone.
 pub fn open_lanes_wide<T: Clear + Drop>(alloc: Global, shape: Shape) -> Result<Opened<T>, OpenFault>
+    requires { shape.guests ≡ 0 }
     ensures faults { (fault : Fault) → IsErrOf result (faults.Shape fault) ↔ IsFirstWideFault shape fault }
     ensures memory { IsErrOf result faults.Memory → IsShape shape }
     ensures shape { IfOk result (λ opened. (opened.pool.shape ≡ shape) × (opened.lanes.pool ≡ opened.pool)) }
@@ -100,7 +102,8 @@ pub fn open_lanes_wide<T: Clear + Drop>(alloc: Global, shape: Shape) -> Result<O
 
 /// The pool of a shape within its limits, with all its lanes. None where memory was refused.
 fn try_open<T: Clear + Drop>(alloc: Global, shape: Shape) -> Option<Opened<T>>
-    requires { IsShape shape }
+    requires shape { IsShape shape }
+    requires alone { shape.guests ≡ 0 }
     ensures shape { IfSome result (λ opened. (opened.pool.shape ≡ shape) × (opened.lanes.pool ≡ opened.pool)) }
     ensures first { IfSome result (λ opened. AreFirstHere opened.lanes) }
     ensures nothing { IfSome result (λ opened. HoldNothing opened.lanes) }

@@ -17,6 +17,7 @@ const SHAPE: Shape = Shape {
     pages: 1,
     last_generation: 2,
     tag: 0,
+    guests: 0,
 };
 
 // A pool of one lane, with that lane.

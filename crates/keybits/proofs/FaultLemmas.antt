@@ -1,5 +1,5 @@
 -- Which fault of a shape comes first.
-use Rattle.std.proofs.Common.{◌≡◌, ℕ, ◌<◌, ◌↔◌, IsOk, IsErrOf, Ok, Err, refl, subst, arith, ⊎_elim}
+use Rattle.std.proofs.Common.{◌≤◌, ◌≡◌, ℕ, ◌<◌, ◌↔◌, IsOk, IsErrOf, Ok, Err, refl, subst, arith, ⊎_elim}
 use Rattle.std.proofs.lemmas.Bool.{cases_order}
 use Rattle.keybits.specs.declared.shape.Shape.{Shape}
 use Rattle.keybits.specs.declared.shape.ShapeFault.{ShapeFault}
@@ -109,15 +109,15 @@ module _ (lanes pages : ℕ) where
       go g h = absurd (omega arith)
 
 -- a shape is one of those of the wide limits where each field is within them
-pub wide_each : (z : Shape) → ((fault : ShapeFault) → IsWithin 64 16 z fault) ↔ IsShape z
-wide_each z = (
-  λ each. record { lanes = each Lanes; first_page = each FirstPage; pages = each Pages; generations = each Generation; tag = each Tag },
+pub wide_each : (z : Shape) → z.guests ≤ 268435456 → ((fault : ShapeFault) → IsWithin 64 16 z fault) ↔ IsShape z
+wide_each z guests = (
+  λ each. record { lanes = each Lanes; first_page = each FirstPage; pages = each Pages; generations = each Generation; tag = each Tag; guests = guests },
   λ ok. each_within 64 16 z ok.lanes ok.first_page ok.pages ok.generations ok.tag,
 )
 
 -- and of the narrow ones
-pub narrow_each : (z : Shape) → ((fault : ShapeFault) → IsWithin 16 6 z fault) ↔ IsNarrow z
-narrow_each z = (
+pub narrow_each : (z : Shape) → z.guests ≡ 0 → ((fault : ShapeFault) → IsWithin 16 6 z fault) ↔ IsNarrow z
+narrow_each z guests = (
   λ each. (
     record {
       lanes = ((each Lanes).0, omega (arith, (each Lanes).1));
@@ -125,9 +125,11 @@ narrow_each z = (
       pages = ((each Pages).0, omega (arith, (each Pages).1));
       generations = each Generation;
       tag = each Tag;
+      guests = omega (arith, guests);
     },
     (each Lanes).1,
     (each Pages).1,
+    guests,
   ),
   λ ok. each_within 16 6 z (ok.0.lanes.0, ok.1) ok.0.first_page (ok.0.pages.0, ok.2) ok.0.generations ok.0.tag,
 )

@@ -7,4 +7,5 @@ pub mod FaultLemmas
 pub mod CountLemmas
 pub mod LeadLemmas
 pub mod HomeLemmas
+pub mod RowLemmas
 pub mod ChangeLemmas

@@ -8,5 +8,6 @@ pub mod Steps
 pub mod ShapeFaults
 pub mod FaultNames
 pub mod Homes
+pub mod Rows
 pub mod HomeLaws
 pub mod SameShapes

@@ -32,4 +32,5 @@ IsShape-prop z s t = λ i. record {
   pages = ×_prop le_prop le_prop s.pages t.pages i;
   generations = le_prop s.generations t.generations i;
   tag = le_prop s.tag t.tag i;
+  guests = le_prop s.guests t.guests i;
 }

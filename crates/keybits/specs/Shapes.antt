@@ -1,7 +1,7 @@
 -- Shapes: the sizes of pages and shards, and which places there are.
 use Rattle.std.specs.Prelude.{◌≡◌, ◌&&◌, ℕ, ◌+◌, ◌-◌, ◌*◌, ◌^◌, ◌<◌, ◌≤◌, Bool, nat_lt, min}
 use Rattle.keybits.specs.declared.shape.Shape.{Shape}
-use Rattle.keybits.specs.declared.shape.TheConstants.{MOST_LANES, MOST_PAGES, MOST_PAGE_PLACES, NARROW_LANES, NARROW_PAGES, GREATEST_TAG}
+use Rattle.keybits.specs.declared.shape.TheConstants.{MOST_LANES, MOST_GUESTS, MOST_PAGES, MOST_PAGE_PLACES, NARROW_LANES, NARROW_PAGES, GREATEST_TAG}
 use Rattle.keybits.specs.Places.{shard_of, page_of, slot_of}
 use Rattle.keybits.specs.Counts.{sum_below}
 
@@ -16,10 +16,15 @@ pub record IsShape (z : Shape) : Type 0 where
   pub pages : (1 ≤ z.pages) × (z.pages ≤ MOST_PAGES)
   pub generations : 1 ≤ z.last_generation
   pub tag : z.tag ≤ GREATEST_TAG
+  pub guests : z.guests ≤ MOST_GUESTS
 
 -- a shape within the narrow limits, which scripts and histories keep to
 abbrev pub IsNarrow : Shape → Type 0
-IsNarrow z = IsShape z × (z.lanes ≤ NARROW_LANES) × (z.pages ≤ NARROW_PAGES)
+IsNarrow z = IsShape z × (z.lanes ≤ NARROW_LANES) × (z.pages ≤ NARROW_PAGES) × (z.guests ≡ 0)
+
+-- how many callers a pool has: its lanes, and its guests, whose numbers follow theirs
+abbrev pub callers : Shape → ℕ
+callers z = z.lanes + z.guests
 
 -- how many places a page has, where the first one has so many: twice as many as the page before it, but no more than the most
 abbrev pub places_of_page : ℕ → ℕ → ℕ

@@ -17,8 +17,8 @@ pub use place::{
     place_of, shard_of, tag_of,
 };
 pub use shape::{
-    GREATEST_TAG, LARGEST_FIRST_PAGE, MOST_LANES, MOST_PAGE_PLACES, MOST_PAGES, NARROW_LANES,
-    NARROW_PAGES, Shape, ShapeFault,
+    GREATEST_TAG, LARGEST_FIRST_PAGE, MOST_GUESTS, MOST_LANES, MOST_PAGE_PLACES, MOST_PAGES,
+    NARROW_LANES, NARROW_PAGES, Shape, ShapeFault,
 };
 pub use step::{Kind, Step, Word};
 pub use words::{

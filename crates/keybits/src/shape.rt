@@ -9,6 +9,9 @@ use std::fmt;
 /// The most lanes of a shape of the wide limits.
 pub const MOST_LANES: u32 = 64;
 
+/// The most guests of a checked shape.
+pub const MOST_GUESTS: u32 = 268_435_456;
+
 /// The most lanes of a shape of the narrow limits.
 pub const NARROW_LANES: u32 = 16;
 
@@ -42,6 +45,8 @@ pub struct Shape {
     pub last_generation: u32,
     /// The pool's tag, which each of its keys carries.
     pub tag: u32,
+    /// How many guests there are: callers that own no shard. Their numbers follow those of the lanes.
+    pub guests: u32,
 }
 
 /// What is wrong with a shape: the first of its fields, in this order, that is outside its limits. Its numbers and its
@@ -111,13 +116,15 @@ impl Shape {
     ghost use Rattle.std.specs.Prelude.{◌≡◌, ℕ, ◌^◌, ◌<◌, ◌≤◌, ◌↔◌, IsTrue, IsOk, IsErrOf};
     ghost use Rattle.keybits.specs.declared.shape.ShapeFault.{ShapeFault};
     ghost use Rattle.keybits.specs.Places.{shard_of};
-    ghost use Rattle.keybits.specs.Shapes.{IsShape, IsNarrow, IsInPage, page_size, page_start, shard_places, all_places, is_place, index_of, position_of};
+    ghost use Rattle.keybits.specs.Shapes.{IsShape, IsNarrow, IsInPage, page_size, page_start, shard_places, all_places, is_place, index_of, position_of, callers};
+    ghost use Rattle.keybits.specs.declared.shape.TheConstants.{MOST_GUESTS};
     ghost use Rattle.keybits.specs.ShapeFaults.{IsWithin, IsFirstOutside, IsFirstFault, IsFirstWideFault};
 
     /// Tests the fields by the narrow limits, in this order: the lanes are from 1 to 16, the first page has 1, 2, 4, 8,
     /// 16, 32 or 64 places, the pages are from 1 to 6, the last generation is at least 1, the tag is at most 255. The
     /// error names the first field that is outside its limits.
     pub fn check(&self) -> Result<(), ShapeFault>
+        requires { self.now.guests ≡ 0 }
         ensures ok { IsOk result ↔ IsNarrow self.now }
         ensures err { (fault : ShapeFault) → IsErrOf result fault ↔ IsFirstFault self.now fault }
     {
@@ -126,6 +133,7 @@ impl Shape {
 
     /// Tests the fields as `check` does, by the wide limits: the lanes are from 1 to 64 and the pages from 1 to 16.
     pub fn check_wide(&self) -> Result<(), ShapeFault>
+        requires { self.now.guests ≤ MOST_GUESTS }
         ensures ok { IsOk result ↔ IsShape self.now }
         ensures err { (fault : ShapeFault) → IsErrOf result fault ↔ IsFirstWideFault self.now fault }
     {
@@ -153,6 +161,15 @@ impl Shape {
             return Err(ShapeFault::Tag);
         }
         Ok(())
+    }
+
+    /// How many callers there are: lanes and guests.
+    #[inline]
+    pub fn callers(&self) -> u32
+        requires { IsShape self.now }
+        ensures { result ≡ callers self.now }
+    {
+        self.lanes + self.guests
     }
 
     /// How many places a page of a checked shape has.

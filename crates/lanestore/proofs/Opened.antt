@@ -4,7 +4,7 @@ use Rattle.std.proofs.lemmas.Option.{slice_get-get_or}
 use Rattle.poolsteps.specs.declared.view.View.{View}
 use Rattle.poolsteps.specs.Views.{the_lane}
 use Rattle.shardpool.specs.Tokens.{PoolOf, LaneOf}
-use Rattle.shardpool.specs.Places.{held_after}
+use Rattle.seatcalls.specs.Left.{held_after}
 use Rattle.shardpool.specs.Lanes.{Owns}
 use Rattle.shardpool.specs.Opened.{AreFirstLanes}
 use Rattle.lanestore.specs.Visits.{IsNew}

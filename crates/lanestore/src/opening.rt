@@ -21,7 +21,8 @@ pub(crate) fn stored<T: Clear + Drop>(
     pool: Pool<T>,
     lanes: Vec<Lane<T>>,
 ) -> Option<Store<T>>
-    requires { AreFirstLanes pool lanes.items }
+    requires lanes { AreFirstLanes pool lanes.items }
+    requires alone { pool.shape.guests ≡ 0 }
     ensures { IfSome result (λ store. store.pool ≡ pool) }
 {
     let Some(rows) = rows_for(alloc, lanes.len()) else {
@@ -56,6 +57,7 @@ fn each_stored<T: Clear + Drop>(
     rows: Rows<T>,
 ) -> Option<Store<T>>
     requires lanes { AreFirstLanes pool lanes.items }
+    requires alone { pool.shape.guests ≡ 0 }
     requires empty { (rows.places.items ≡ []) × (rows.lanes.items ≡ []) }
     ensures { IfSome result (λ store. store.pool ≡ pool) }
 {
@@ -104,6 +106,7 @@ fn give_up<T: Clear + Drop>(
     rest: IntoIter<Lane<T>>,
     row: Vec<Lane<T>>,
 )
+    requires alone { pool.shape.guests ≡ 0 }
     requires places { All (λ tag. tag ≡ pool) places.items }
     requires next { Owns pool next }
     requires rest { All (λ lane. Owns pool lane) (into_iter_items rest) }

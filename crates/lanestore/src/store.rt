@@ -19,6 +19,7 @@ pub struct Store<T: Clear> {
     pub(crate) alloc: Global,
     ghost of_pool: { All (λ tag. tag ≡ pool) places.items },
     ghost all: { length places.items ≡ pool.shape.lanes },
+    ghost alone: { pool.shape.guests ≡ 0 },
 }
 
 impl<T: Clear + Drop> Store<T> {
@@ -35,12 +36,13 @@ impl<T: Clear + Drop> Store<T> {
     ghost use Rattle.lanestore.specs.Shared.{IsOfNone};
     ghost use Rattle.lanestore.specs.Visits.{lane_of};
 
-    /// Opens a pool of this shape, which is within the narrow limits, with all its lanes here.
+    /// Opens a pool of this shape, which is within the narrow limits and has no guests, with all its lanes here.
     ///
     /// # Errors
     ///
     /// The first fault of the shape; and the want of memory, for a shape within its limits alone.
     pub fn open(alloc: Global, shape: Shape) -> Result<Store<T>, OpenFault>
+        requires { shape.guests ≡ 0 }
         ensures opened { IfOk result (λ store. store.pool.shape ≡ shape) }
         ensures faults { (fault : Fault) → IsErrOf result (faults.Shape fault) ↔ IsFirstFault shape fault }
         ensures memory { IsErrOf result faults.Memory → IsNarrow shape }
@@ -58,6 +60,7 @@ impl<T: Clear + Drop> Store<T> {
     ///
     /// As `open`, by the wide limits.
     pub fn open_wide(alloc: Global, shape: Shape) -> Result<Store<T>, OpenFault>
+        requires { shape.guests ≡ 0 }
         ensures opened { IfOk result (λ store. store.pool.shape ≡ shape) }
         ensures faults { (fault : Fault) → IsErrOf result (faults.Shape fault) ↔ IsFirstWideFault shape fault }
         ensures memory { IsErrOf result faults.Memory → IsShape shape }

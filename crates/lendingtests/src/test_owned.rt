@@ -21,6 +21,7 @@ const SHAPE: Shape = Shape {
     pages: 1,
     last_generation: u32::MAX,
     tag: 0,
+    guests: 0,
 };
 
 fn opened<R: Abort>(rt: &R, alloc: Global) -> Opened<ByteBuf>

@@ -35,6 +35,7 @@ const SHAPE: Shape = Shape {
     pages: 1,
     last_generation: u32::MAX,
     tag: 0,
+    guests: 0,
 };
 
 /// How many messages wait in the channel.

@@ -2,7 +2,7 @@
 use Rattle.std.proofs.Common.{◌≡◌, ℕ, zero, suc, ◌+◌, ◌<◌, List, [], ◌∷◌, ◌++◌, length, slice_get, Some, refl, sym, ap, ◌∙◌, subst, arith}
 use Rattle.poolsteps.specs.Views.{the_lane}
 use Rattle.shardpool.specs.Tokens.{PoolOf, LaneOf}
-use Rattle.shardpool.specs.Places.{held_after}
+use Rattle.seatcalls.specs.Left.{held_after}
 use Rattle.shardpool.specs.Lanes.{Owns, SameLane, refs}
 use Rattle.shardpool.specs.Closings.{AreLanes}
 use Rattle.shardpool.specs.Opened.{AreFirstLanes}
@@ -50,8 +50,9 @@ lane-at [] number low = absurd (omega (arith, low))
 lane-at (lane ∷ lanes) zero low = (lane, refl)
 lane-at (lane ∷ lanes) (suc number) low = lane-at lanes number (omega (arith, low))
 
-numbered-are-all : (pool : PoolOf) (lanes : List LaneOf) → length lanes ≡ pool.shape.lanes → AreNumbered pool 0 lanes → AreLanes pool lanes
-numbered-are-all pool lanes count are = record {
+numbered-are-all : (pool : PoolOf) (lanes : List LaneOf) → pool.shape.guests ≡ 0 → length lanes ≡ pool.shape.lanes → AreNumbered pool 0 lanes → AreLanes pool lanes
+numbered-are-all pool lanes alone count are = record {
+  alone = alone;
   count = count;
   owned = λ at lane is. (are at lane is).0;
   all = λ number low.
@@ -74,8 +75,8 @@ numbered-first first at lane is =
     let nth = of.number_is in (of.owned, omega (arith, nth))
 
 -- where the last lane did something they are still all lanes
-pub last-stays : {pool : PoolOf} (rest : List LaneOf) (old new : LaneOf) → AreFirstLanes pool (rest ++ old ∷ []) → SameLane old new
+pub last-stays : {pool : PoolOf} (rest : List LaneOf) (old new : LaneOf) → pool.shape.guests ≡ 0 → AreFirstLanes pool (rest ++ old ∷ []) → SameLane old new
     → AreLanes pool (rest ++ new ∷ [])
-last-stays {pool = pool} rest old new first same =
-    numbered-are-all pool (rest ++ new ∷ []) (as-long rest old new ∙ first.count)
+last-stays {pool = pool} rest old new alone first same =
+    numbered-are-all pool (rest ++ new ∷ []) alone (as-long rest old new ∙ first.count)
     (numbered-stays pool 0 rest old new same (numbered-first first))

@@ -15,6 +15,7 @@ const WIDEST: Shape = Shape {
     pages: MOST_PAGES,
     last_generation: u32::MAX,
     tag: 0,
+    guests: 0,
 };
 
 /// How many places a shard of it has: pages of 64, 128 and so on to 2,048 places, and ten of 4,096.

@@ -1,4 +1,5 @@
 //! Pools that are opened and closed in each round.
+ghost use Rattle.std.specs.Prelude.{◌≡◌};
 ghost use Rattle.shardpool.specs.Lanes.{Owns, SameLane};
 
 use crate::pools::put;
@@ -14,6 +15,7 @@ pub const LARGEST: Shape = Shape {
     pages: NARROW_PAGES,
     last_generation: u32::MAX,
     tag: 0,
+    guests: 0,
 };
 
 /// The largest pool of one lane.
@@ -23,6 +25,7 @@ pub const ONE_LANE: Shape = Shape {
     pages: NARROW_PAGES,
     last_generation: u32::MAX,
     tag: 0,
+    guests: 0,
 };
 
 /// How many places a shard of these shapes has.
@@ -34,7 +37,9 @@ pub const TILL_LAST_PAGE: u32 = LARGEST_FIRST_PAGE * ((1 << (NARROW_PAGES - 1)) 
 
 /// Opens a pool of this shape, puts so many objects by its last lane, and closes it. Answers how many places it then
 /// had with an object, or in pages that were never opened: 0 where it can't be opened.
-pub fn open_and_close(alloc: Global, shape: Shape, objects: u32) -> u32 {
+pub fn open_and_close(alloc: Global, shape: Shape, objects: u32) -> u32
+    requires { shape.guests ≡ 0 }
+{
     let Ok((pool, mut lanes)) = open(alloc, shape) else {
         return 0;
     };

@@ -112,6 +112,7 @@ pub fn open_pool(
         pages: 1,
         last_generation: u32::MAX,
         tag: 0,
+        guests: 0,
     };
     open_wide(alloc, shape)
 }

@@ -1,4 +1,6 @@
 //! What a thread does in each round.
+ghost use Rattle.std.specs.Prelude.{◌≡◌};
+
 use crate::fills::read_large;
 use crate::openings::{LARGEST, ONE_LANE, TILL_LAST_PAGE, open_and_close};
 use crate::owners::read_clones;
@@ -183,7 +185,9 @@ fn alu(rounds: u64) -> u64 {
 
 /// Pools are opened, given so many objects and closed. Answers how many places they then had with an object or
 /// unopened.
-fn open(alloc: Global, shape: Shape, objects: u32, rounds: u64) -> u64 {
+fn open(alloc: Global, shape: Shape, objects: u32, rounds: u64) -> u64
+    requires { shape.guests ≡ 0 }
+{
     let mut places = 0u64;
     for _ in 0..rounds {
         places = places.wrapping_add(u64::from(open_and_close(alloc, shape, objects)));

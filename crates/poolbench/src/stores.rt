@@ -61,6 +61,7 @@ fn open_store(alloc: Global) -> Option<Store<Text>> {
         pages: 1,
         last_generation: u32::MAX,
         tag: 0,
+        guests: 0,
     };
     Store::open_wide(alloc, shape).ok()
 }

@@ -103,6 +103,7 @@ shape_of shape = record {
   last_generation =
       shape.last_generation;
   tag = shape.tag;
+  guests = 0;
 }
 
 -- some slot has a lane; none has one

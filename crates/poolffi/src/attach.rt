@@ -160,6 +160,7 @@ pub extern "C" fn pardz_detach(alloc: Global, pool: &mut PoolSlot, census: &mut 
 
 /// Opens a pool of this shape into an empty slot.
 fn attach_slot(alloc: Global, shape: Shape, pool: &mut PoolSlot) -> u32
+    requires { shape.guests ≡ 0 }
     ensures { Attaches shape pool.old.items pool.new.items result }
 {
     if pool.is_full() {

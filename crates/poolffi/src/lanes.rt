@@ -39,6 +39,7 @@ fn lower_all(slots: &mut [Slot], handles: Vec<Box<Handle>>)
 
 /// Opens a pool into empty slots.
 pub(crate) fn open_slots(alloc: Global, shape: Shape, number: u64, slots: &mut [Slot]) -> u32
+    requires { shape.guests ≡ 0 }
     ensures { Opens shape number slots.old slots.new result }
 {
     if slots.len() != shape.lanes as usize {

@@ -73,6 +73,7 @@ fn shape_of(shape: &PoolShape) -> Shape
         pages: shape.pages,
         last_generation: shape.last_generation,
         tag: shape.tag,
+        guests: 0,
     }
 }
 

@@ -15,12 +15,13 @@ use slotcell::ByteBuf;
 use std::alloc::Global;
 use std::sync::Arc;
 
-/// The first caller of a pool of this shape that is opened.
+/// The first caller of a pool of this shape, which has no guests, that is opened.
 ///
 /// # Errors
 ///
 /// The first fault of the shape, by the wide limits; and the want of memory, for a shape within them alone.
 pub fn open_caller(alloc: Global, shape: Shape) -> Result<Box<Caller>, OpenFault>
+    requires { shape.guests ≡ 0 }
     ensures opened { IfOk result (λ caller. (pool_of caller.value).shape ≡ shape) }
     ensures faults { (fault : Fault) → IsErrOf result (faults.Shape fault) ↔ IsFirstWideFault shape fault }
     ensures memory { IsErrOf result faults.Memory → IsShape shape }

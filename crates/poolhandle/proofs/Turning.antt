@@ -8,7 +8,7 @@ use Rattle.keybits.specs.Keys.{place_of}
 use Rattle.poolsteps.specs.Layout.{slot_start}
 use Rattle.poolsteps.specs.Views.{the_lane}
 use Rattle.poolsteps.specs.Told.{MayPublish}
-use Rattle.shardpool.specs.Carried.{AreEmptied}
+use Rattle.seatcalls.specs.Carried.{AreEmptied}
 use Rattle.shardpool.specs.Tokens.{LaneOf, FillingOf}
 use Rattle.shardpool.specs.Lanes.{Made, IsFilling}
 use Rattle.slotcell.specs.ByteBuf.{ByteBuf}

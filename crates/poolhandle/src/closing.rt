@@ -131,6 +131,7 @@ fn gathered(
 /// and lanes are then dropped.
 pub fn close_lanes<T: Clear + Drop>(pool: Pool<T>, lanes: Vec<Lane<T>>) -> Option<Census>
     requires owned { All (λ lane. Owns pool lane) lanes.items }
+    requires alone { pool.shape.guests ≡ 0 }
     ensures some { IsSome result ↔ AreInOrder pool lanes.items }
     ensures closes { IfSome result (λ census. AreLanes pool lanes.items × Closes pool lanes.items census) }
 {

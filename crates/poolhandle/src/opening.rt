@@ -24,13 +24,14 @@ use std::alloc::Global;
 use std::sync::Arc;
 use std::vec::IntoIter;
 
-/// The lanes of a pool of this shape that is opened, each with its share of the pool, by rising number. The pool's own
-/// number tells it from others at a join.
+/// The lanes of a pool of this shape, which has no guests, that is opened, each with its share of the pool, by rising
+/// number. The pool's own number tells it from others at a join.
 ///
 /// # Errors
 ///
 /// The first fault of the shape, by the wide limits; and the want of memory, for a shape within them alone.
 pub fn open_handles(alloc: Global, shape: Shape, number: u64) -> Result<Vec<Box<Handle>>, OpenFault>
+    requires { shape.guests ≡ 0 }
     ensures opened { IfOk result (λ handles. AreOpened shape number handles.items) }
     ensures faults { (fault : Fault) → IsErrOf result (faults.Shape fault) ↔ IsFirstWideFault shape fault }
     ensures memory { IsErrOf result faults.Memory → IsShape shape }
@@ -48,7 +49,8 @@ fn handles_of(
     lanes: Vec<Lane<ByteBuf>>,
     number: u64,
 ) -> Option<Vec<Box<Handle>>>
-    requires { AreFirstLanes pool lanes.items }
+    requires lanes { AreFirstLanes pool lanes.items }
+    requires alone { pool.shape.guests ≡ 0 }
     ensures { IfSome result (λ handles. AreOpened pool.shape number handles.items) }
 {
     let Some((given, rows)) = rows_for(alloc, &pool, lanes.len()) else {

@@ -55,4 +55,5 @@ pub struct Shared {
     pub number: u64,
     ghost of_pool: { All (λ tag. tag ≡ pool) given.items },
     ghost all: { length given.items ≡ pool.shape.lanes },
+    ghost alone: { pool.shape.guests ≡ 0 },
 }

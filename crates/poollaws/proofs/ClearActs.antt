@@ -11,7 +11,7 @@ use Rattle.seqpool.specs.declared.act.Act.{Act}
 use Rattle.seqpool.specs.declared.act.Act.TheVariants as acts
 use Rattle.steplaws.specs.Calls.{Call, Publishing, Getting, Releasing, Clearing, Creating, Caller, is_claimed, KindMakes, EnterMakes, LeaveMakes, PublishMakes, TakeMakes, MarkMakes}
 use Rattle.poolsteps.specs.Views.{acts_in}
-use Rattle.shardpool.specs.Called.{Make}
+use Rattle.seatcalls.specs.Called.{Make}
 use Rattle.poollaws.specs.Cleared.{cleared_in}
 
 pub cleared-append : (xs ys : List Act) → cleared_in (xs ++ ys) ≡ cleared_in xs ++ cleared_in ys

@@ -12,7 +12,7 @@ use Rattle.seqpool.proofs.Growth.{legal-at}
 use Rattle.seqpool.proofs.Misses.{clear-law}
 use Rattle.steplaws.specs.Calls.{Call, Publishing, Getting, Releasing}
 use Rattle.poolsteps.specs.Views.{the_lane}
-use Rattle.shardpool.specs.Called.{caller_of}
+use Rattle.seatcalls.specs.Called.{caller_of}
 use Rattle.shardpool.specs.declared.create.CreateFault.{CreateFault}
 use Rattle.shardpool.specs.Tokens.{PoolOf, LaneOf, FillingOf, RefOf}
 use Rattle.shardpool.specs.Lanes.{Calls, Did}
@@ -105,7 +105,7 @@ none-law content room = record {
 }
 
 -- a clear that answers true cleared its key, and one that answers false cleared nothing
-clear-with : (key lane : ℕ) (result : Bool) (rest made : List Act) → cleared_in rest ≡ [] → made ≡ acts.Clear lane key result ∷ rest
+pub clear-with : (key lane : ℕ) (result : Bool) (rest made : List Act) → cleared_in rest ≡ [] → made ≡ acts.Clear lane key result ∷ rest
     → cleared_in made ≡ cond result (key ∷ []) []
 clear-with key lane true rest made calm is = ap cleared_in is ∙ ap (λ (keys : List ℕ). key ∷ keys) calm
 clear-with key lane false rest made calm is = ap cleared_in is ∙ calm
@@ -134,7 +134,7 @@ cleared-more true act more key is =
 cleared-more false act more key is = is
 
 -- what stands cleared in a history, by a lane, is among what its acts cleared
-cleared-among : (history : List Act) (i lane key : ℕ) → At history i (acts.Clear lane key true) → has (cleared_in (acts_of lane history)) key ≡ true
+pub cleared-among : (history : List Act) (i lane key : ℕ) → At history i (acts.Clear lane key true) → has (cleared_in (acts_of lane history)) key ≡ true
 cleared-among [] i lane key at = absurd (cc at)
 cleared-among (x ∷ xs) zero lane key at =
     let same : x ≡ acts.Clear lane key true = cc at in
@@ -201,15 +201,20 @@ each-once (x ∷ xs) lane once =
     one-more (lane_of x == lane) x xs lane once
     (each-once xs lane (λ i j key low first second. once (suc i) (suc j) key (omega (arith, low)) first second))
 
+-- the acts of a caller of a legal history clear no key twice
+pub cleared-once : (z : Shape) (history mine : List Act) (caller : ℕ) → IsLegal z history → mine ≡ acts_of caller history → NoRepeats (cleared_in mine)
+cleared-once z history mine caller legal own =
+    subst (λ (acts : List Act). NoRepeats (cleared_in acts)) (sym own) (each-once history caller (legal-once z history legal))
+
 pub once-law : ClearedOnceLaw
-once-law z lane legal own =
-    subst (λ (acts : List Act). NoRepeats (cleared_in acts)) (sym own) (each-once lane.book.seen lane.number (legal-once z lane.book.seen legal))
+once-law z lane legal own = cleared-once z lane.book.seen (the_lane lane.book).mine lane.number legal own
 
 -- ---- closed pools
 
 pub clearer-law : ClearerLaw
 clearer-law pool lanes census all closes key (i, (number, at)) =
-    let owner = all.all number (legal-at pool.shape _ closes.history i (acts.Clear number key true) closes.last.legal at).0 in
+    let below = (legal-at pool.shape _ closes.history i (acts.Clear number key true) closes.last.legal at).0 in
+    let owner = all.all number (omega (arith, below, all.alone)) in
     let mine = closes.last.own owner.0 owner.1 owner.2 in
     let among = cleared-among closes.history i number key at in
     let own : cleared_by owner.1 ≡ cleared_in (acts_of number closes.history)

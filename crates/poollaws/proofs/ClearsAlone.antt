@@ -12,7 +12,7 @@ use Rattle.seqpool.specs.declared.act.Act.{Act}
 use Rattle.seqpool.specs.declared.act.Act.TheVariants as acts
 use Rattle.steplaws.specs.Calls.{Clearing, Caller, Aim, aim, is_hit, owes_claim, is_claimed, end_next, mark_next, AreSteps, KindMakes}
 use Rattle.poolsteps.specs.Views.{acts_in}
-use Rattle.shardpool.specs.Called.{Make}
+use Rattle.seatcalls.specs.Called.{Make}
 use Rattle.poollaws.specs.Cleared.{cleared_in}
 use Rattle.poollaws.proofs.ClearActs.{IsMaker, kind-calm, calm-more}
 

@@ -13,7 +13,7 @@ use Rattle.shardpool.specs.declared.census.Census.{Census}
 use Rattle.shardpool.specs.declared.census.Part.{Part}
 use Rattle.shardpool.specs.declared.census.Part.TheVariants.{Free, Unopened, Filling, Present, Marked, Retired}
 use Rattle.shardpool.specs.Tokens.{PoolOf, LaneOf}
-use Rattle.shardpool.specs.Closings.{AreLanes, IsPart, counted, all_counted, none_counted, Closes}
+use Rattle.shardpool.specs.Closings.{AreAllLanes, AreLanes, IsPart, counted, all_counted, none_counted, Closes}
 use Rattle.shardpool.proofs.at_close.SortedLanes.{one-part}
 use Rattle.shardpool.proofs.count.Counts.{position-below}
 use Rattle.poollaws.specs.Words.{IsPublished, IsCleared, IsPresent, HasAll}
@@ -32,7 +32,11 @@ last-law pool lanes census closes = record {
 key-place : (z : Shape) (key : ℕ) → is_key z key ≡ true → is_place z (place_of key) ≡ true
 key-place z key is = (and_parts _ _ (and_parts _ _ (and_parts _ _ is).0).0).1
 
-pub counted-present : (pool : PoolOf) (lanes : List LaneOf) (census : Census) → AreLanes pool lanes → (closes : Closes pool lanes census)
+-- the lanes of a pool without guests are all its lanes
+all-lanes : (pool : PoolOf) (lanes : List LaneOf) → AreLanes pool lanes → AreAllLanes pool lanes
+all-lanes pool lanes are = record { count = are.count; owned = are.owned; all = are.all }
+
+counted-present : (pool : PoolOf) (lanes : List LaneOf) (census : Census) → AreAllLanes pool lanes → (closes : Closes pool lanes census)
     → (key : ℕ) (content : List ℕ) → IsPresent pool.shape closes.history key content → CountsPresent closes.census_is key
 counted-present pool lanes census are closes key content (current, (references, phase)) =
     let z : Shape = pool.shape in
@@ -58,11 +62,15 @@ counted-present pool lanes census are closes key content (current, (references, 
     let same : part ≡ Present = one-part closes.history lane place part Present is present in
     record { index = index; lane = lane; stands = at; own = own; part = stands ∙ ap (λ (p : Part). Some p) same }
 
-pub counted-law : CountedLaw
-counted-law pool lanes census are closes key content is = elim (end-law pool.shape closes.history key content closes.last.legal is).0 [
+pub counted-all : (pool : PoolOf) (lanes : List LaneOf) (census : Census) → AreAllLanes pool lanes → (closes : Closes pool lanes census)
+    → (key : ℕ) (content : List ℕ) → IsPublished closes.history key content → IsCleared closes.history key ⊎ CountsPresent closes.census_is key
+counted-all pool lanes census are closes key content is = elim (end-law pool.shape closes.history key content closes.last.legal is).0 [
   | inl cleared ↦ inl cleared
   | inr present ↦ inr (counted-present pool lanes census are closes key content present)
 ]
+
+pub counted-law : CountedLaw
+counted-law pool lanes census are closes key content is = counted-all pool lanes census (all-lanes pool lanes are) closes key content is
 
 -- ---- where none is counted
 
@@ -86,10 +94,14 @@ one-present census (part ∷ more) zero is =
     let rest = none-fewer (counted census part) more in omega (arith, first, rest)
 one-present census (part ∷ more) (suc i) is = one-present (counted census part) more i is
 
-pub none-left-law : NoneLeftLaw
-none-left-law pool lanes census are closes none key content is = elim (counted-law pool lanes census are closes key content is) [
+pub none-left-all : (pool : PoolOf) (lanes : List LaneOf) (census : Census) → AreAllLanes pool lanes → (closes : Closes pool lanes census)
+    → census.present ≡ 0 → (key : ℕ) (content : List ℕ) → IsPublished closes.history key content → IsCleared closes.history key
+none-left-all pool lanes census are closes none key content is = elim (counted-all pool lanes census are closes key content is) [
   | inl cleared ↦ cleared
   | inr counts ↦
       let some = one-present none_counted closes.census_is.parts _ counts.part in
       let all = ap (λ (c : Census). c.present) closes.census_is.counts in absurd (omega (arith, none, some, all))
 ]
+
+pub none-left-law : NoneLeftLaw
+none-left-law pool lanes census are closes none key content is = none-left-all pool lanes census (all-lanes pool lanes are) closes none key content is

@@ -4,3 +4,4 @@ pub mod Kept
 mod ClearActs
 mod ClearsAlone
 pub mod Clearing
+pub mod Guests

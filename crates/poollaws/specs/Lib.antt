@@ -3,3 +3,4 @@ pub mod Cleared
 pub mod Rooms
 pub mod Counted
 pub mod Laws
+pub mod GuestLaws

@@ -45,6 +45,7 @@ fn run_told<M: Write>(
     meter: &mut Meter<M>,
 ) -> Result<Trace, CoreFault>
     requires shape { IsShape shape }
+    requires alone { shape.guests ≡ 0 }
     requires scripts { length scripts.items ≡ shape.lanes }
     ensures { IfOk result (λ trace. IsLawful shape scripts.items schedule.now trace) }
 {

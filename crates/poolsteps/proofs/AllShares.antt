@@ -1,5 +1,6 @@
 -- OUT and BACK of all shares of a place: the look that takes the slots, and the look that gives them back.
 use Rattle.poolsteps.specs.Spot.{Spot as CellSpot}
+use Rattle.keybits.specs.Shapes.{callers}
 use Rattle.std.proofs.Common.{◌≡◌, ℕ, zero, suc, ◌+◌, ◌-◌, ◌<◌, List, Option, Some, ap, sym, ◌∙◌, subst, arith}
 use Rattle.keybits.specs.declared.shape.Shape.{Shape}
 use Rattle.poolsteps.specs.Share.{Share}
@@ -40,10 +41,10 @@ module _ {z : Shape} {place : ℕ} {status : Status} {c : Stored} {looks : ℕ} 
 
 -- the cell of the shares is that of the first in hand
 pub first-stored : {T : Type 0} (content : T → List ℕ) (room : T → ℕ) (spots : ℕ → CellSpot) (z : Shape) (c : Stored) (place count : ℕ) (order : ℕ → ℕ) (values : ℕ → Option (Share T))
-    → AreLeft content room spots place z Untouched c values → 0 < count → order (count - 1) < z.lanes → stored_held content room (first_value (held_of z place order values count)) ≡ c
+    → AreLeft content room spots place z Untouched c values → 0 < count → order (count - 1) < (callers z) → stored_held content room (first_value (held_of z place order values count)) ≡ c
 first-stored content room spots z c place zero order values are some below = absurd (omega (arith, some))
 first-stored {T} content room spots z c place (suc count) order values are some below =
     let same : suc count - 1 ≡ count = omega arith in
-    let left = are (order count) (subst (λ (n : ℕ). order n < z.lanes) same below) in
+    let left = are (order count) (subst (λ (n : ℕ). order n < (callers z)) same below) in
     let is : values (order count) ≡ Some left.0 = cc left.1 in
-    ap (stored_held content room) is ∙ sym (stored-is content room spots place c (order count) z.lanes left.0 left.2)
+    ap (stored_held content room) is ∙ sym (stored-is content room spots place c (order count) (callers z) left.0 left.2)

@@ -10,7 +10,7 @@ use Rattle.atomic_table.specs.Table as table
 use Rattle.atomic_table.specs.Table.{Me, Act, Allows, Valid, homes_after, carried_after, put_back, rest}
 use Rattle.atomic_table.proofs.Lists.{set_else}
 use Rattle.keybits.specs.declared.shape.Shape.{Shape}
-use Rattle.keybits.specs.Shapes.{is_place}
+use Rattle.keybits.specs.Shapes.{callers, is_place}
 use Rattle.poolsteps.specs.Share.{Share}
 use Rattle.poolsteps.specs.declared.view.Stored.{Stored}
 use Rattle.poolsteps.specs.declared.view.Status.{Status}
@@ -100,7 +100,7 @@ module _ {T : Type 0} (content : T → List ℕ) (room : T → ℕ) (spots : ℕ
     }
 
     -- one slot more
-    module _ {q : Stock} {now : LaneRecord} {homes_now : Homes} (b : Batch q now homes_now) (number : ℕ) (below : number < z.lanes) (status : Status) (c : Stored)
+    module _ {q : Stock} {now : LaneRecord} {homes_now : Homes} (b : Batch q now homes_now) (number : ℕ) (below : number < (callers z)) (status : Status) (c : Stored)
         (value : maybe.Option (Option (Share T))) (cell : MayMove z w.history q lane place number c) (leaves : Leaves content room spots place z number c status (maybe.some value)) where
       abbrev stock : Stock
       stock = moved q lane place number status c
@@ -158,7 +158,7 @@ module _ {T : Type 0} (content : T → List ℕ) (room : T → ℕ) (spots : ℕ
 
     -- all slots of the place were moved, and are left so
     module _ (index : ℕ) (status : Status) (c : Stored) (q : Stock) (now : LaneRecord) (homes_now : Homes) (b : Batch q now homes_now)
-        (each : (k : ℕ) → k < z.lanes → status_of now place k ≡ status) (known : known_of now place ≡ c) where
+        (each : (k : ℕ) → k < (callers z) → status_of now place k ≡ status) (known : known_of now place ≡ c) where
       abbrev view_now : View
       view_now = look_view me.0 now (restocked_world w q)
 
@@ -185,14 +185,14 @@ module _ {T : Type 0} (content : T → List ℕ) (room : T → ℕ) (spots : ℕ
       }
 
     -- ---- taken
-    module _ (order : ℕ → ℕ) (is : IsOrder z order) (status : Status) (left : (k : ℕ) → k < z.lanes → status_of r place k ≡ status) (aside : status ≢ InHand) where
+    module _ (order : ℕ → ℕ) (is : IsOrder z order) (status : Status) (left : (k : ℕ) → k < (callers z) → status_of r place k ≡ status) (aside : status ≢ InHand) where
       abbrev cell : Stored
       cell = w.stock.stored place
 
       abbrev values : ℕ → Option (Share T)
       values k = value_there (slots_in z homes place k)
 
-      there : (k : ℕ) (below : k < z.lanes) → (slots_in z homes place k ≡ at_home (values k)) × Leaves content room spots place z k cell status (at_home (values k))
+      there : (k : ℕ) (below : k < (callers z)) → (slots_in z homes place k ≡ at_home (values k)) × Leaves content room spots place z k cell status (at_home (values k))
       there k below =
           let found = stands-there content room spots z id me one place k inside below (may-touch z me.0 place k has) w homes words views st at status (left k below) aside in
           let same : found.0 ≡ values k = sym (ap value_there found.1) in
@@ -210,7 +210,7 @@ module _ {T : Type 0} (content : T → List ℕ) (room : T → ℕ) (spots : ℕ
         held_is : carried_after [] act ≡ held_of z place order values count
         stored_is : q.stored place ≡ cell
         in_hand : (j : ℕ) → j < count → status_of now place (order j) ≡ InHand
-        same : (j : ℕ) → count ≤ j → j < z.lanes → get_elem? homes_now (slot_index z place (order j)) ≡ get_elem? homes (slot_index z place (order j))
+        same : (j : ℕ) → count ≤ j → j < (callers z) → get_elem? homes_now (slot_index z place (order j)) ≡ get_elem? homes (slot_index z place (order j))
         known : known_of now place ≡ known_of r place
 
       none-taken : Taken zero
@@ -229,11 +229,11 @@ module _ {T : Type 0} (content : T → List ℕ) (room : T → ℕ) (spots : ℕ
         known = refl;
       }
 
-      one-taken : (count : ℕ) → count < z.lanes → Taken count → Taken (suc count)
+      one-taken : (count : ℕ) → count < (callers z) → Taken count → Taken (suc count)
       one-taken count below t =
           let k : ℕ = order count in
           let at : ℕ = slot_index z place k in
-          let k_below : k < z.lanes = is.below count below in
+          let k_below : k < (callers z) = is.below count below in
           let slot = there k k_below in
           let there_now : get_elem? t.homes_now at ≡ maybe.some (maybe.some (values k)) =
           t.same count (omega arith) below ∙ (sym (slot-is z homes place k inside k_below) ∙ slot.0) in
@@ -259,13 +259,13 @@ module _ {T : Type 0} (content : T → List ℕ) (room : T → ℕ) (spots : ℕ
             known = known-moved t.now place k InHand cell ∙ knows;
           }
 
-      taken : (count : ℕ) → count ≤ z.lanes → Taken count
+      taken : (count : ℕ) → count ≤ (callers z) → Taken count
       taken zero most = none-taken
       taken (suc count) most = one-taken count (omega arith) (taken count (omega arith))
 
     -- ---- given back
     module _ (order : ℕ → ℕ) (is : IsOrder z order) (status : Status) (c : Stored) (values : ℕ → Option (Share T)) (held : List (ℕ × Option (Share T)))
-        (held_are : held ≡ held_of z place order values z.lanes) (left : (k : ℕ) → k < z.lanes → status_of r place k ≡ InHand)
+        (held_are : held ≡ held_of z place order values (callers z)) (left : (k : ℕ) → k < (callers z) → status_of r place k ≡ InHand)
         (leaves : AreLeft content room spots place z status c values) where
       -- all but the first so many are given back
       record Given (count : ℕ) : Type 0 where
@@ -277,11 +277,11 @@ module _ {T : Type 0} (content : T → List ℕ) (room : T → ℕ) (spots : ℕ
         valid : Valid homes held act
         homes_are : homes_after homes held act ≡ homes_now
         held_is : carried_after held act ≡ held_of z place order values count
-        may : (c ≡ q.stored place) ⊎ ((k : ℕ) → k < z.lanes → q.status lane place k ≡ InHand)
-        given : (j : ℕ) → count ≤ j → j < z.lanes → status_of now place (order j) ≡ status
-        known : count < z.lanes → known_of now place ≡ c
+        may : (c ≡ q.stored place) ⊎ ((k : ℕ) → k < (callers z) → q.status lane place k ≡ InHand)
+        given : (j : ℕ) → count ≤ j → j < (callers z) → status_of now place (order j) ≡ status
+        known : count < (callers z) → known_of now place ≡ c
 
-      none-given : Given z.lanes
+      none-given : Given (callers z)
       none-given = record {
         q = w.stock;
         now = r;
@@ -296,11 +296,11 @@ module _ {T : Type 0} (content : T → List ℕ) (room : T → ℕ) (spots : ℕ
         known = λ less. absurd (omega (arith, less));
       }
 
-      one-given : (count : ℕ) → count < z.lanes → Given (suc count) → Given count
+      one-given : (count : ℕ) → count < (callers z) → Given (suc count) → Given count
       one-given count below t =
           let k : ℕ = order count in
           let at : ℕ = slot_index z place k in
-          let k_below : k < z.lanes = is.below count below in
+          let k_below : k < (callers z) = is.below count below in
           let value : maybe.Option (Option (Share T)) = maybe.some (values k) in
           let cell : MayMove z w.history t.q lane place k c = ⊎_elim (λ same. inl same) (λ all. inr ((still k).all has, λ j less other. inr (all j less))) t.may in
           record {
@@ -322,19 +322,19 @@ module _ {T : Type 0} (content : T → List ℕ) (room : T → ℕ) (spots : ℕ
             known = λ less. known-moved t.now place k status c;
           }
 
-      given : (count : ℕ) → count ≤ z.lanes → Given count → Given zero
+      given : (count : ℕ) → count ≤ (callers z) → Given count → Given zero
       given zero most t = t
       given (suc count) most t = given count (omega arith) (one-given count (omega arith) t)
 
   -- a look at any word, at which all slots of the place are taken, as the lane left them
-  pub lift-all-allows : (index : ℕ) (order : ℕ → ℕ) (status : Status) → IsOrder z order → ((k : ℕ) → k < z.lanes → status_of r place k ≡ status) → status ≢ InHand
+  pub lift-all-allows : (index : ℕ) (order : ℕ → ℕ) (status : Status) → IsOrder z order → ((k : ℕ) → k < (callers z) → status_of r place k ≡ status) → status ≢ InHand
       → me.1 ≡ [] → Allows (Kept content room spots z) (slot_count z) id me index (λ n. n) (λ found after. LiftsAll content room spots z place order status me after)
   lift-all-allows index order status is left aside bare s kept homes at small =
       let w : World = kept.0 in
       let st = kept.1 in
-      let t = taken w s.homes s.words s.views st at order is status left aside z.lanes (omega arith) in
+      let t = taken w s.homes s.words s.views st at order is status left aside (callers z) (omega arith) in
       let knows_it = knows w s.homes s.words s.views st at in
-      let each : (k : ℕ) → k < z.lanes → status_of t.now place k ≡ InHand =
+      let each : (k : ℕ) → k < (callers z) → status_of t.now place k ≡ InHand =
       λ k less. let found = is.all k less in subst (λ (n : ℕ). status_of t.now place n ≡ InHand) found.2 (t.in_hand found.0 found.1) in
       let e = batch-stands w s.homes s.words s.views st at index InHand (known_of r place) t.q t.now t.homes_now t.batch each t.known in
       let view : View = look_view me.0 t.now (restocked_world w t.q) in (
@@ -356,15 +356,15 @@ module _ {T : Type 0} (content : T → List ℕ) (room : T → ℕ) (spots : ℕ
       )
 
   -- and one at which they are given back
-  pub lay-all-allows : (index : ℕ) (order : ℕ → ℕ) (status : Status) (c : Stored) (values : ℕ → Option (Share T)) → IsOrder z order → 0 < z.lanes
-      → ((k : ℕ) → k < z.lanes → status_of r place k ≡ InHand) → AreLeft content room spots place z status c values → me.1 ≡ held_of z place order values z.lanes
+  pub lay-all-allows : (index : ℕ) (order : ℕ → ℕ) (status : Status) (c : Stored) (values : ℕ → Option (Share T)) → IsOrder z order → 0 < (callers z)
+      → ((k : ℕ) → k < (callers z) → status_of r place k ≡ InHand) → AreLeft content room spots place z status c values → me.1 ≡ held_of z place order values (callers z)
       → Allows (Kept content room spots z) (slot_count z) id me index (λ n. n) (λ found after. LaysAll content room spots z place status c me after)
   lay-all-allows index order status c values is some left leaves held s kept homes at small =
       let w : World = kept.0 in
       let st = kept.1 in
-      let t = given w s.homes s.words s.views st at order is status c values me.1 held left leaves z.lanes (omega arith)
+      let t = given w s.homes s.words s.views st at order is status c values me.1 held left leaves (callers z) (omega arith)
       (none-given w s.homes s.words s.views st at order is status c values me.1 held left leaves) in
-      let each : (k : ℕ) → k < z.lanes → status_of t.now place k ≡ status =
+      let each : (k : ℕ) → k < (callers z) → status_of t.now place k ≡ status =
       λ k less. let found = is.all k less in subst (λ (n : ℕ). status_of t.now place n ≡ status) found.2 (t.given found.0 (omega arith) found.1) in
       let e = batch-stands w s.homes s.words s.views st at index status c t.q t.now t.homes_now t.batch each (t.known some) in
       let view : View = look_view me.0 t.now (restocked_world w t.q) in (

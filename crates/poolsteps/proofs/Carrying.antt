@@ -1,5 +1,6 @@
 -- OUT and BACK: a look that takes a slot, an exchange of what it has, and a look that gives it back.
 use Rattle.poolsteps.specs.Spot.{Spot as CellSpot}
+use Rattle.keybits.specs.Shapes.{callers}
 use Rattle.std.proofs.Common.{◌≡◌, ◌≢◌, ◌==◌, ◌&&◌, inl, inr, ⊎_elim, ℕ, ◌+◌, Bool, true, cond, eqb, List, [], ◌∷◌, Option, IsSome, IfSome, Some, None, refl, ap, sym, ◌∙◌, subst, arith, eq-eqb, ne_eqb}
 use Rattle.std.proofs.lemmas.Bool.{and_right}
 use Rattle.atomic_table.specs.Table.{Me, rest}
@@ -69,7 +70,7 @@ module _ {T : Type 0} (content : T → List ℕ) (room : T → ℕ) (spots : ℕ
     full-is : (c : Stored) (value : Option (Share T)) (status : Status) → status ≢ InHand → status ≢ Emptied → Leaves content room spots place z number c status (at_home value)
         → (share : Share T) × (value ≡ Some share) × (c ≡ stored_of content room share) × IsLeft content room spots place z number c status share
     full-is c value Untouched aside full leaves =
-        let is : value ≡ Some leaves.0 = cc leaves.1 in (leaves.0, is, stored-is place c number z.lanes leaves.0 leaves.2, leaves.2)
+        let is : value ≡ Some leaves.0 = cc leaves.1 in (leaves.0, is, stored-is place c number (callers z) leaves.0 leaves.2, leaves.2)
     full-is c value Emptied aside full leaves = absurd (full refl)
     full-is c value InHand aside full leaves = absurd (aside refl)
     full-is c value Whole aside full leaves =
@@ -228,7 +229,7 @@ module _ {T : Type 0} (content : T → List ℕ) (room : T → ℕ) (spots : ℕ
 
 -- what is given to a slot that the lane has emptied may stand in it
 module _ {T : Type 0} (content : T → List ℕ) (room : T → ℕ) (spots : ℕ → CellSpot) (z : Shape) (place number : ℕ) where
-  pub leaves-given : (known : Stored) (given : Option (Share T)) → IfSome given (λ share. (share.number ≡ number) × (share.of ≡ z.lanes) × (share.spot ≡ spots place))
+  pub leaves-given : (known : Stored) (given : Option (Share T)) → IfSome given (λ share. (share.number ≡ number) × (share.of ≡ (callers z)) × (share.spot ≡ spots place))
       → Leaves content room spots place z number (stored_or content room known given) (left_held given) (at_home given)
   leaves-given known None is = refl
   leaves-given known (Some share) is =

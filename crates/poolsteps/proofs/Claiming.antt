@@ -9,7 +9,7 @@ use Rattle.keybits.specs.declared.shape.Shape.{Shape}
 use Rattle.keybits.specs.declared.step.Kind.TheVariants as kinds
 use Rattle.keybits.specs.declared.step.Word.TheVariants.{Life}
 use Rattle.keybits.specs.Places.{shard_of}
-use Rattle.keybits.specs.Shapes.{is_place}
+use Rattle.keybits.specs.Shapes.{callers, is_place}
 use Rattle.keybits.specs.Keys.{place_of, key_number}
 use Rattle.keybits.specs.Words.{word_with, generation_in, claimable}
 use Rattle.keybits.specs.Steps.{claim_gives}
@@ -155,7 +155,7 @@ module _ {S T : Type 0} (content : T → List ℕ) (room : T → ℕ) (spots : �
       let keeps = claim-keeps z words w point.rule place generation inside r.lane owes hit in
       let here : place_of key ≡ place = claimed-place z words w point.rule place generation inside hit in
       let law = subst (λ (p : ℕ). ((w.stock.stored p).room ≡ room_of w.history w.kept p)
-      × ((number : ℕ) → number < z.lanes → (l : ℕ) → l < z.lanes → w.stock.status l p number ≡ Untouched)
+      × ((number : ℕ) → number < (callers z) → (l : ℕ) → l < (callers z) → w.stock.status l p number ≡ Untouched)
       × Shared content room spots z (w.history ++ acts.Reclaim r.lane key ∷ []) (w.kept ++ 0 ∷ []) slots (restocked w.stock r.lane p (w.stock.stored p))) here
       (reclaim-share-law content room spots z w.history w.kept slots w.stock r.lane key point.paired point.rule.legal point.shared at.record_is.inside keeps.allowed.1) in
       record {

@@ -1,5 +1,6 @@
 -- A seat's first lane is dealt out, and the rule goes on; so each lane gets a hand.
 use Rattle.poolsteps.specs.Spot.{Spot as CellSpot}
+use Rattle.keybits.specs.Shapes.{callers}
 use Rattle.std.proofs.Common.{◌≡◌, inl, inr, ⊎_elim, ℕ, zero, suc, ◌+◌, ◌<◌, List, [], ◌∷◌, ◌++◌, length, slice_get, Option, Some, None}
 use Rattle.std.proofs.Common.{refl, ap, sym, ◌∙◌, subst, arith}
 use Rattle.std.proofs.lemmas.List.{length_push}
@@ -38,7 +39,7 @@ module _ {T : Type 0} (grid : Grid T) where
   pub record AreDealt (dealt : ℕ) (seat : Hand T) (hands : List (Hand T)) : Type 0 where
     pub seat_of : IsOf grid seat
     pub more : ℕ
-    pub all : dealt + more ≡ grid.shape.lanes
+    pub all : dealt + more ≡ (callers grid.shape)
     pub rest : seat.me ≡ (first_lanes_view dealt more, [])
     pub count : length hands ≡ dealt
     pub each : (lane : ℕ) (hand : Hand T) → slice_get hands lane ≡ Some hand → IsFirstHand grid lane hand
@@ -47,7 +48,7 @@ module _ {T : Type 0} (grid : Grid T) where
   pub none-dealt : (seat : Hand T) (hands : List (Hand T)) → IsOf grid seat → seat.me ≡ (first_view grid.shape, []) → hands ≡ [] → AreDealt 0 seat hands
   none-dealt seat hands of me empty = record {
     seat_of = of;
-    more = grid.shape.lanes;
+    more = (callers grid.shape);
     all = omega arith;
     rest = me;
     count = ap length empty;
@@ -55,12 +56,12 @@ module _ {T : Type 0} (grid : Grid T) where
   }
 
   -- one lane more is dealt out of the seat
-  pub one-dealt : (dealt : ℕ) (before after hand : Hand T) (hands more : List (Hand T)) → AreDealt dealt before hands → dealt < grid.shape.lanes
+  pub one-dealt : (dealt : ℕ) (before after hand : Hand T) (hands more : List (Hand T)) → AreDealt dealt before hands → dealt < (callers grid.shape)
       → IsOf grid hand → hand.me ≡ (first_alone before.me.0, []) → SameSeat before after → after.me ≡ (without_first before.me.0, before.me.1)
       → more ≡ hands ++ hand ∷ [] → AreDealt (dealt + 1) after more
   one-dealt dealt before after hand hands more are less of me same left longer = next are.more are.all are.rest
     where
-      next : (rest : ℕ) → dealt + rest ≡ grid.shape.lanes → before.me ≡ (first_lanes_view dealt rest, []) → AreDealt (dealt + 1) after more
+      next : (rest : ℕ) → dealt + rest ≡ (callers grid.shape) → before.me ≡ (first_lanes_view dealt rest, []) → AreDealt (dealt + 1) after more
       next zero all had = absurd (omega arith)
       next (suc rest) all had = record {
         seat_of = same.0 ∙ are.seat_of;
@@ -77,5 +78,5 @@ module _ {T : Type 0} (grid : Grid T) where
       }
 
   -- all lanes are
-  pub all-dealt : (dealt : ℕ) (seat : Hand T) (hands : List (Hand T)) → AreDealt dealt seat hands → dealt ≡ grid.shape.lanes → AreFirstHands grid hands
+  pub all-dealt : (dealt : ℕ) (seat : Hand T) (hands : List (Hand T)) → AreDealt dealt seat hands → dealt ≡ (callers grid.shape) → AreFirstHands grid hands
   all-dealt dealt seat hands are all = record { count = are.count ∙ all; each = are.each }

@@ -8,13 +8,13 @@ use Rattle.keybits.specs.declared.step.Kind.TheVariants as kinds
 use Rattle.keybits.specs.Keys.{place_of, is_key}
 use Rattle.keybits.specs.Words.{count_in}
 use Rattle.seqpool.specs.declared.act.Act.TheVariants as acts
-use Rattle.seqpool.specs.Pool.{Phase, with, published, home, retired, Pool, references_in, content_in, is_current, found, pool_after}
+use Rattle.seqpool.specs.Pool.{Phase, with, published, home, retired, Pool, references_in, references, content_in, is_current, found, pool_after}
 use Rattle.poolsteps.specs.declared.view.Status.TheVariants.{Untouched}
 use Rattle.poolsteps.proofs.shares.Cases.{untouched-is}
 use Rattle.steplaws.specs.declared.pending.Pending.TheVariants.{Nothing, Undo}
 use Rattle.steplaws.specs.Calls.{is_hit}
 use Rattle.poolsteps.specs.Shares.{reclaimer, MayHave, Slots}
-use Rattle.steplaws.specs.Facts.{Words, most_references}
+use Rattle.steplaws.specs.Facts.{Words, most_of}
 use Rattle.steplaws.specs.StepLaws.{HasUnderWay}
 use Rattle.steplaws.proofs.Enters.{get-hits-law, get-misses-law, clear-hits-law, clear-misses-law}
 use Rattle.poolsteps.specs.declared.steps.Purpose.{Purpose}
@@ -75,9 +75,10 @@ module _ {S T : Type 0} (content : T → List ℕ) (room : T → ℕ) (spots : �
       let some = found-held (is_current z pool key) (pool (place_of key)).phase (reclaimer w.history (place_of key)) lane bytes finds may.0 in
       omega (arith, some, references-known z words w me.0 point.rule at key, none))
 
-  get-hits : references_seen z me.0 key < most_references → is_hit key word ≡ true → MakesEnter (EntersGet z key me)
+  get-hits : references_seen z me.0 key < most_of z (the_lane me.0).lane → is_hit key word ≡ true → MakesEnter (EntersGet z key me)
   get-hits fewer hit =
-      let few = subst (λ (n : ℕ). n < most_references) (sym (references-known z words w me.0 point.rule at key)) fewer in
+      let known = references-known z words w me.0 point.rule at key in
+      let few : references z (pool_after z w.history) lane key < most_of z lane = omega (arith, fewer, known) in
       let law = get-hits-law z (moment_of words w) lane key point.rule idle-now good few hit in
       left-in law.1.room record {
         kind = kinds.Enter;
@@ -128,11 +129,11 @@ module _ {S T : Type 0} (content : T → List ℕ) (room : T → ℕ) (spots : �
         told = λ after steps. (λ hit. not-both key word hit miss, λ still. steps);
       }
 
-  enters : (purpose : Purpose) → (purpose ≡ ToGet → references_seen z me.0 key < most_references) → MakesEnter (Enters z purpose key me)
+  enters : (purpose : Purpose) → (purpose ≡ ToGet → references_seen z me.0 key < most_of z (the_lane me.0).lane) → MakesEnter (Enters z purpose key me)
   enters ToGet fewer = ⊎_elim (get-hits (fewer refl)) get-misses (cases_Bool (is_hit key word))
   enters ToClear fewer = ⊎_elim clear-hits clear-misses (cases_Bool (is_hit key word))
 
   -- the ENTER of an idle lane, which for a get has fewer references to the key than the most, by what it is for and whether it hits
-  pub enter-makes : (purpose : Purpose) → (purpose ≡ ToGet → references_seen z me.0 key < most_references)
+  pub enter-makes : (purpose : Purpose) → (purpose ≡ ToGet → references_seen z me.0 key < most_of z (the_lane me.0).lane)
       → Makes content room spots z words w slots (place_of key) me ((word + 4) % 2 ^ 64) (Enters z purpose key me)
   enter-makes purpose fewer = quietly content room spots z words w slots point at (enters purpose fewer)

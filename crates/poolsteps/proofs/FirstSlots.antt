@@ -6,7 +6,7 @@ use mathlib.Core.Option as maybe
 use mathlib.Core.Option.{some}
 use lib.ListN.{get_elem?}
 use Rattle.keybits.specs.declared.shape.Shape.{Shape}
-use Rattle.keybits.specs.Shapes.{is_place}
+use Rattle.keybits.specs.Shapes.{callers, is_place}
 use Rattle.poolsteps.specs.Share.{Share}
 use Rattle.poolsteps.specs.Shares.{IsEmpty}
 use Rattle.poolsteps.specs.Layout.{slot_count, slot_index, slots_in}
@@ -32,9 +32,9 @@ none-at {A} (slot ∷ more) none (suc index) below = none-at more (λ k other is
 
 -- so is each slot of the pool
 pub slots-empty : {T : Type 0} (content : T → List ℕ) (room : T → ℕ) (spots : ℕ → CellSpot) (z : Shape) (slots : List (Option (Share T))) → length slots ≡ slot_count z → AreNone slots
-    → (place lane : ℕ) → is_place z place ≡ true → lane < z.lanes → IsEmpty content room spots (slots_in z (map some slots)) place lane
+    → (place lane : ℕ) → is_place z place ≡ true → lane < (callers z) → IsEmpty content room spots (slots_in z (map some slots)) place lane
 slots-empty {T} content room spots z slots count none place lane inside below =
-    let has = and_from (is_place z place) (nat_lt lane z.lanes) inside (lt-ltb lane z.lanes below) in
+    let has = and_from (is_place z place) (nat_lt lane (callers z)) inside (lt-ltb lane (callers z) below) in
     let deep = slot-below z place lane inside below in
     let i : ℕ = slot_index z place lane in
     ap (λ (b : Bool). cond b (get_elem? (map some slots) i) maybe.none) has ∙ none-at slots none i (omega arith)

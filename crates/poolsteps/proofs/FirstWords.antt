@@ -1,5 +1,5 @@
 -- The words of a table before the first step, one lifecycle word after another.
-use Rattle.std.proofs.Common.{◌≡◌, ℕ, ◌+◌, ◌*◌, ◌<◌, ◌≤◌, List, length, slice_index, slice_set, ap, ◌∙◌, arith, ⊎_elim, get_or-set_other, get_or-set_same}
+use Rattle.std.proofs.Common.{Bool, true, false, cond, ◌≡◌, ℕ, ◌+◌, ◌*◌, ◌<◌, ◌≤◌, List, length, slice_index, slice_set, ap, ◌∙◌, arith, ⊎_elim, get_or-set_other, get_or-set_same}
 use Rattle.std.proofs.lemmas.Bool.{cases_Bool}
 use mathlib.Core.Logic.{dite}
 use native.Mathlib.Decide.{ℕ_discrete}
@@ -8,8 +8,8 @@ use Rattle.keybits.specs.declared.step.Word.TheVariants.{Life, Stack}
 use Rattle.keybits.specs.Words.{fresh_word}
 use Rattle.steplaws.specs.MomentLaws.{AreFirst}
 use Rattle.poolsteps.specs.declared.find.TheConstants.{LIVES_START}
-use Rattle.poolsteps.specs.Layout.{slot_start, slot_row, word_count, index_in, has_word, words_in}
-use Rattle.poolsteps.proofs.LayoutLemmas.{value-is, value-out}
+use Rattle.poolsteps.specs.Layout.{slot_start, slot_row, word_count, has_row, bits_index, index_in, has_word, words_in}
+use Rattle.poolsteps.proofs.LayoutLemmas.{value-is, value-out, bits-is}
 use Rattle.poolsteps.proofs.SlotLemmas.{in-row}
 
 -- so many words from where the lifecycle words begin are those of the start, and those behind the rows are 0
@@ -37,4 +37,8 @@ first-all z words first = record {
       (λ is. value-is z words (Stack shard lane) is ∙ first.stack (index_in z (Stack shard lane)) (omega arith))
       (λ isnt. value-out z words (Stack shard lane) isnt)
       (cases_Bool (has_word z (Stack shard lane)));
+  bits = λ shard row. ⊎_elim
+      (λ (is : has_row z shard row ≡ true). bits-is z words shard row is ∙ first.stack (bits_index z shard row) (omega arith))
+      (λ (isnt : has_row z shard row ≡ false). ap (λ (b : Bool). cond b (slice_index words (bits_index z shard row)) 0) isnt)
+      (cases_Bool (has_row z shard row));
 }

@@ -1,6 +1,6 @@
 -- FOLLOW, through the table.
 use Rattle.poolsteps.specs.Spot.{Spot as CellSpot}
-use Rattle.std.proofs.Common.{◌≡◌, ℕ, ◌∷◌, List, None, refl, sym, ◌∙◌, append-nil}
+use Rattle.std.proofs.Common.{◌<◌, ◌≡◌, ℕ, ◌∷◌, List, None, refl, sym, ◌∙◌, append-nil}
 use Rattle.atomic_table.specs.Table.{Me}
 use Rattle.keybits.specs.declared.shape.Shape.{Shape}
 use Rattle.keybits.specs.declared.step.Kind.TheVariants as kinds
@@ -20,17 +20,17 @@ use Rattle.poolsteps.proofs.Making.{moment_of, shared-still, MakesAt}
 use Rattle.poolsteps.proofs.Chains.{chain-inside, leads-first}
 
 pub follow-makes : {S T : Type 0} (content : T → List ℕ) (room : T → ℕ) (spots : ℕ → CellSpot) (z : Shape) (words : Words) (w : World) (slots : Slots T)
-    → IsPoint content room spots z words w slots → (me : Me S View) (place : ℕ) → IsAt z w me.0 → (the_lane me.0).chain ≡ place ∷ rest_of (the_lane me.0).chain
+    → IsPoint content room spots z words w slots → (me : Me S View) (place : ℕ) → IsAt z w me.0 → (the_lane me.0).lane < z.lanes → (the_lane me.0).chain ≡ place ∷ rest_of (the_lane me.0).chain
     → MakesAt content room spots z words w slots (Link place) me (words.link place) (Follows z me)
-follow-makes content room spots z words w slots point me place at first =
+follow-makes content room spots z words w slots point me place at own first =
     let m = moment_of words w in
     let r : LaneRecord = the_lane me.0 in
     let more : List ℕ = rest_of r.chain in
-    let law = follow-law z m r.lane place more point.rule at.record_is.inside (sym at.record_is.chain ∙ first) in
+    let law = follow-law z m r.lane place more point.rule own (sym at.record_is.chain ∙ first) in
     let keeps = law.2 in
     let chain = at-here w.lanes.chain r.lane more r.lane refl in
     let inside = chain-inside z (moment_after m (Link place) (words.link place) None (with_chain w.lanes r.lane more)) r.lane more
-    keeps.rule at.record_is.inside chain in
+    keeps.rule own chain in
     let leads = leads-first z words.link r.lane (words.link place) more law.0 law.1 inside in record {
       kind = kinds.Follow;
       act = None;

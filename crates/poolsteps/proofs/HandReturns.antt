@@ -1,5 +1,6 @@
 -- A place with its shares on the way from a claim to a return, and from a TAKE on, by the view of a hand.
 use Rattle.std.proofs.Common.{◌≡◌, ◌≢◌, ℕ, zero, suc, ◌<◌, ◌≤◌, Bool, true, false, cond, ◌==◌, ◌&&◌, List, [], ◌∷◌, Option, refl, ap, sym, ◌∙◌, arith, eq-eqb}
+use Rattle.keybits.specs.Shapes.{callers}
 use Rattle.atomic_table.specs.Table.{Me}
 use Rattle.keybits.specs.declared.shape.Shape.{Shape}
 use Rattle.keybits.specs.Places.{shard_of}
@@ -63,7 +64,7 @@ rest-slots r place old new number empty =
 
 -- the place is at rest once its only share is put back, of an object with no content and with the place's room at least, and LINK follows
 pub is-at-rest : {z : Shape} {before after last : View} {place at : ℕ} {old new : Stored} {linked : Option ℕ} {failed : Bool} (law : SharesLaw) → HasPlace z before place
-    → ((number : ℕ) → number < z.lanes → status_of (the_lane before) place number ≡ Emptied)
+    → ((number : ℕ) → number < (callers z) → status_of (the_lane before) place number ≡ Emptied)
     → GoesOn z before after [] [] (back_record (the_lane before) place old new) → GoesOn z after last [] [] (with_return (the_lane after) at linked failed)
     → new.content ≡ [] → room_of before.seen before.rooms place ≤ new.room → IsAtRest z last place
 is-at-rest {before = before} {place = place} {old = old} {new = new} law all empty goes more none room =

@@ -1,5 +1,6 @@
 -- A lane's references, by its view: what its own acts make of them.
 use Rattle.std.proofs.Common.{◌≡◌, ◌≢◌, ℕ, ◌+◌, ◌-◌, ◌<◌, Bool, true, false, cond, ◌==◌, List, [], ◌∷◌, ◌++◌, Some, None, refl, sym, ap, ◌∙◌, subst, arith, eq-eqb, ne_eqb, inl, inr, append_assoc}
+use Rattle.keybits.specs.Shapes.{callers}
 use Rattle.std.proofs.lemmas.Bool.{cases_Bool}
 use Rattle.std.proofs.lemmas.List.Sums.{sum_by-cons}
 use mathlib.Core.Logic.{dite}
@@ -38,14 +39,14 @@ module _ (z : Shape) (key lane : ℕ) where
   counts-else l k mine differ = ap (λ b. one_if b (k == key)) (eq-eqb l lane mine) ∙ ap (λ b. one_if true b) (ne_eqb k key differ)
 
   -- what the lane has after an act with what it gave back is what it had with what it made
-  one-act : (P : Pool) (act : Act) → lane_of act < z.lanes → Allowed z P act
+  one-act : (P : Pool) (act : Act) → lane_of act < (callers z) → Allowed z P act
       → references z (after z act P) lane key + released_by lane key act ≡ references z P lane key + made_by lane key act
   one-act P act inside ok =
       let total = tally z key lane P (act ∷ []) (inside, ok, tt) in
       let made = sum_by-cons (made_by lane key) act [] in let released = sum_by-cons (released_by lane key) act [] in omega arith
 
   -- each allowed act of the lane
-  by-act : (P : Pool) (act : Act) → lane_of act < z.lanes → Allowed z P act → lane_of act ≡ lane
+  by-act : (P : Pool) (act : Act) → lane_of act < (callers z) → Allowed z P act → lane_of act ≡ lane
       → references z (after z act P) lane key ≡ references_with act key (references z P lane key)
   by-act P (Publish l k content true) inside ok mine =
       let had : ℕ = references z P lane key in

@@ -8,7 +8,7 @@ use Rattle.std.specs.Prelude.{Option, Some, None, slice_get}
 use Rattle.core.specs.declared.slots.Slots.{Slots}
 use Rattle.core.specs.Mem.Slots.{slots_items, slots_counts}
 use Rattle.keybits.specs.declared.shape.Shape.{Shape}
-use Rattle.keybits.specs.Shapes.{IsShape, is_place}
+use Rattle.keybits.specs.Shapes.{callers, IsShape, is_place}
 use Rattle.poolsteps.specs.Share.{Share}
 use Rattle.poolsteps.specs.Spot.{Spot as CellSpot}
 use Rattle.poolsteps.specs.Rest.{Rest, lowest_share}
@@ -66,18 +66,18 @@ module _ {T : Type 0} (spots : ℕ → CellSpot) (z : Shape) (place : ℕ) where
   -- the shares from the number on are lifted, and the rest has them
   pub record HasJoined (number : ℕ) (old new : Slots (Option (Share T))) (rest : Rest T) : Type 0 where
     pub spread : IsSpread spots z (slots_items old) place
-    pub below : number < z.lanes
+    pub below : number < (callers z)
     pub cell_is : rest.cell ≡ spread.cell
     pub spot_is : rest.spot ≡ spots place
     pub number_is : rest.number ≡ number
-    pub of_is : rest.of ≡ z.lanes
+    pub of_is : rest.of ≡ (callers z)
     pub drains : Drains z place old new
     pub untouched : (lane : ℕ) → lane < number → slice_get (slots_items new) (slot_index z place lane) ≡ slice_get (slots_items old) (slot_index z place lane)
-    pub gone : (lane : ℕ) → number ≤ lane → lane < z.lanes → slice_get (slots_items new) (slot_index z place lane) ≡ Some None
+    pub gone : (lane : ℕ) → number ≤ lane → lane < (callers z) → slice_get (slots_items new) (slot_index z place lane) ≡ Some None
 
 module _ {T : Type 0} (spots : ℕ → CellSpot) (z : Shape) (ok : IsShape z) (place : ℕ) (inside : is_place z place ≡ true) where
   -- a slot of the place is set
-  pub drains-one : (old new : Slots (Option (Share T))) (lane : ℕ) → IsSlotRow z old → lane < z.lanes → IsSet (slot_index z place lane) None old new → Drains z place old new
+  pub drains-one : (old new : Slots (Option (Share T))) (lane : ℕ) → IsSlotRow z old → lane < (callers z) → IsSet (slot_index z place lane) None old new → Drains z place old new
   drains-one old new lane row low set = record {
     row = (set.full, set.count ∙ row.1);
     start = set.start;
@@ -93,7 +93,7 @@ module _ {T : Type 0} (spots : ℕ → CellSpot) (z : Shape) (ok : IsShape z) (p
   }
 
   -- which then is empty
-  pub empty-one : (old new : Slots (Option (Share T))) (lane : ℕ) → IsSlotRow z old → lane < z.lanes → IsSet (slot_index z place lane) None old new
+  pub empty-one : (old new : Slots (Option (Share T))) (lane : ℕ) → IsSlotRow z old → lane < (callers z) → IsSet (slot_index z place lane) None old new
       → slice_get (slots_items new) (slot_index z place lane) ≡ Some None
   empty-one old new lane row low set =
       let within = slot-below z place lane inside low in
@@ -108,12 +108,12 @@ module _ {T : Type 0} (spots : ℕ → CellSpot) (z : Shape) (ok : IsShape z) (p
       ∙ get-elsewhere (slots_items old) (slot_index z place lane) (slot_index z place other) None (λ same. apart (slot-apart z ok place other place lane inside inside same).1)
 
   -- the last share is lifted
-  pub joined-first : (old new : Slots (Option (Share T))) (number : ℕ) (s : Share T) (rest : Rest T) → IsSlotRow z old → IsSpread spots z (slots_items old) place → number + 1 ≡ z.lanes
+  pub joined-first : (old new : Slots (Option (Share T))) (number : ℕ) (s : Share T) (rest : Rest T) → IsSlotRow z old → IsSpread spots z (slots_items old) place → number + 1 ≡ (callers z)
       → slice_get (slots_items old) (slot_index z place number) ≡ Some (Some s) → IsSet (slot_index z place number) None old new → s ≡ lowest_share rest
       → HasJoined spots z place number old new rest
   joined-first old new number s rest row spread last there set is =
-      let low : number < z.lanes = omega arith in
-      let part = part-is (slots_items old) (slot_index z place number) (spots place) spread.cell number z.lanes s (spread.each number low) there in
+      let low : number < (callers z) = omega arith in
+      let part = part-is (slots_items old) (slot_index z place number) (spots place) spread.cell number (callers z) s (spread.each number low) there in
       record {
         spread = spread;
         below = low;
@@ -130,7 +130,7 @@ module _ {T : Type 0} (spots : ℕ → CellSpot) (z : Shape) (ok : IsShape z) (p
 
   module _ (number : ℕ) {after : ℕ} {old mid : Slots (Option (Share T))} {rest : Rest T} (is : number + 1 ≡ after) (j : HasJoined spots z place after old mid rest) where
     -- the share of the next number stands in its slot
-    pub part-before : HasPart (slots_items mid) (slot_index z place number) (spots place) j.spread.cell number z.lanes
+    pub part-before : HasPart (slots_items mid) (slot_index z place number) (spots place) j.spread.cell number (callers z)
     part-before =
         let low = j.below in
         let p = j.spread.each number (omega (arith, is, low)) in
@@ -140,14 +140,14 @@ module _ {T : Type 0} (spots : ℕ → CellSpot) (z : Shape) (ok : IsShape z) (p
       -- it may be merged
       pub may-merge : (s.cell ≡ rest.cell) × (s.spot ≡ rest.spot) × (s.of ≡ rest.of) × (s.number + 1 ≡ rest.number)
       may-merge =
-          let part = part-is (slots_items mid) (slot_index z place number) (spots place) j.spread.cell number z.lanes s part-before there in
+          let part = part-is (slots_items mid) (slot_index z place number) (spots place) j.spread.cell number (callers z) s part-before there in
           (part.0 ∙ sym j.cell_is, part.3 ∙ sym j.spot_is, part.2 ∙ sym j.of_is, ap (λ (n : ℕ). n + 1) part.1 ∙ (is ∙ sym j.number_is))
 
       -- and then is the rest's
       pub joined-more : (new : Slots (Option (Share T))) → IsSet (slot_index z place number) None mid new → HasJoined spots z place number old new (record rest { number = s.number })
       joined-more new set =
           let low = j.below in
-          let part = part-is (slots_items mid) (slot_index z place number) (spots place) j.spread.cell number z.lanes s part-before there in
+          let part = part-is (slots_items mid) (slot_index z place number) (spots place) j.spread.cell number (callers z) s part-before there in
           record {
             spread = j.spread;
             below = omega (arith, is, low);

@@ -8,9 +8,9 @@ use Rattle.keybits.specs.declared.shape.Shape.{Shape}
 use Rattle.keybits.specs.declared.step.Word.{Word}
 use Rattle.keybits.specs.declared.step.Word.TheVariants.{Life, Link, Stack}
 use Rattle.keybits.specs.Shapes.{IsShape}
-use Rattle.steplaws.specs.Facts.{value_of, with_value, put_at, put_two}
+use Rattle.steplaws.specs.Facts.{value_of, with_value, with_bits, put_at, put_two}
 use Rattle.steplaws.proofs.Updates.{at-here, at-else, two-here, two-row, two-else}
-use Rattle.poolsteps.specs.Layout.{word_count, index_in, has_word, value_in, words_in}
+use Rattle.poolsteps.specs.Layout.{word_count, bits_start, row_count, bits_index, has_row, bits_in, index_in, has_word, value_in, words_in}
 use Rattle.poolsteps.proofs.SlotLemmas.{in-row, start-injective}
 
 -- ---- where each word stands
@@ -21,10 +21,22 @@ stack-low z shard lane has =
     let both = and_parts (nat_lt shard z.lanes) (nat_lt lane z.lanes) has in
     mul-add-lt shard z.lanes lane z.lanes (ltb-true shard z.lanes both.0) (ltb-true lane z.lanes both.1)
 
+index-before : (z : Shape) → IsShape z → (word : Word) → has_word z word ≡ true → index_in z word < bits_start z
+index-before z ok (Life place) has = let low = in-row z place has in omega arith
+index-before z ok (Link place) has = let low = in-row z place has in omega arith
+index-before z ok (Stack shard lane) has = let low = stack-low z shard lane has in omega arith
+
 pub index-below : (z : Shape) → IsShape z → (word : Word) → has_word z word ≡ true → index_in z word < word_count z
-index-below z ok (Life place) has = let low = in-row z place has in omega arith
-index-below z ok (Link place) has = let low = in-row z place has in omega arith
-index-below z ok (Stack shard lane) has = let low = stack-low z shard lane has in omega arith
+index-below z ok word has = let low = index-before z ok word has in omega arith
+
+-- the words of rows stand behind them
+row-low : (z : Shape) (shard row : ℕ) → has_row z shard row ≡ true → shard * row_count z + row < z.lanes * row_count z
+row-low z shard row has =
+    let both = and_parts (nat_lt shard z.lanes) (nat_lt row (row_count z)) has in
+    let low = mul-add-lt shard (row_count z) row z.lanes (ltb-true shard z.lanes both.0) (ltb-true row (row_count z) both.1) in omega arith
+
+pub bits-below : (z : Shape) (shard row : ℕ) → has_row z shard row ≡ true → bits_index z shard row < word_count z
+bits-below z shard row has = let low = row-low z shard row has in omega arith
 
 -- ---- no two words stand at one place
 
@@ -78,6 +90,47 @@ module _ (z : Shape) (ok : IsShape z) (words : List ℕ) (count : length words �
       (λ isnt. value-out z after other isnt ∙ sym (value-out z words other isnt))
       (cases_Bool (has_word z other))
 
+-- no row's word changes with another word
+other-row : (z : Shape) → IsShape z → (words : List ℕ) (word : Word) → has_word z word ≡ true → (value s r : ℕ)
+    → bits_in z (slice_set words (index_in z word) value) s r ≡ bits_in z words s r
+other-row z ok words word has value s r = ap (λ (n : ℕ). cond (has_row z s r) n 0)
+    (get_or-set_other words (index_in z word) (bits_index z s r) value 0 (λ same. let low = index-before z ok word has in absurd (omega arith)))
+
+-- the word of a row is changed, and that one alone
+pub set-bits : (z : Shape) → IsShape z → (words : List ℕ) → length words ≡ word_count z → (shard row : ℕ) → has_row z shard row ≡ true → (value : ℕ)
+    → words_in z (slice_set words (bits_index z shard row) value) ≡ with_bits (words_in z words) shard row value
+set-bits z ok words count shard row has value =
+    let old : ℕ → ℕ → ℕ = bits_in z words in
+    let after : List ℕ = slice_set words (bits_index z shard row) value in
+    let low = bits-below z shard row has in
+    let here : bits_in z after shard row ≡ value = ap (λ (b : Bool). cond b (slice_index after (bits_index z shard row)) 0) has
+    ∙ get_or-set_same words (bits_index z shard row) value 0 (omega arith) in
+    let else : (s r : ℕ) → (bits_index z s r ≡ bits_index z shard row → has_row z s r ≡ true → ⊥) → bits_in z after s r ≡ old s r = λ s r apart. ⊎_elim
+    (λ (is : has_row z s r ≡ true). ap (λ (n : ℕ). cond (has_row z s r) n 0) (get_or-set_other words (bits_index z shard row) (bits_index z s r) value 0 (λ same. apart same is)))
+    (λ (isnt : has_row z s r ≡ false). ap (λ (b : Bool). cond b (slice_index after (bits_index z s r)) 0) isnt
+    ∙ sym (ap (λ (b : Bool). cond b (slice_index words (bits_index z s r)) 0) isnt))
+    (cases_Bool (has_row z s r)) in
+    let same-place : (s r : ℕ) → bits_index z s r ≡ bits_index z shard row → has_row z s r ≡ true → (s ≡ shard) × (r ≡ row) = λ s r same is.
+    same_from_place s r shard row (row_count z) (ltb-true r (row_count z) (and_parts (nat_lt s z.lanes) (nat_lt r (row_count z)) is).1)
+    (ltb-true row (row_count z) (and_parts (nat_lt shard z.lanes) (nat_lt row (row_count z)) has).1) (omega (arith, same)) in
+    let rows : (s r : ℕ) → bits_in z after s r ≡ put_two old shard row value s r = λ s r.
+    dite (ℕ_discrete s shard)
+    (λ d. dite (ℕ_discrete r row)
+    (λ e. ap (λ (n : ℕ). bits_in z after n r) d ∙ (ap (bits_in z after shard) e ∙ (here ∙ sym (two-here old shard row value s r d e))))
+    (λ n. else s r (λ same is. n (same-place s r same is).1) ∙ sym (two-else old shard row value s r n)))
+    (λ n. else s r (λ same is. n (same-place s r same is).0) ∙ sym (two-row old shard row value s r n)) in
+    let others : (word : Word) → value_in z after word ≡ value_in z words word = λ word. ⊎_elim
+    (λ (is : has_word z word ≡ true). value-in z after word is
+    ∙ (get_or-set_other words (bits_index z shard row) (index_in z word) value 0 (λ same. let before = index-before z ok word is in absurd (omega arith))
+    ∙ sym (value-in z words word is)))
+    (λ isnt. value-out z after word isnt ∙ sym (value-out z words word isnt))
+    (cases_Bool (has_word z word)) in
+    λ k. record { life = λ p. others (Life p) k; link = λ p. others (Link p) k; stack = λ s l. others (Stack s l) k; bits = λ s r. rows s r k }
+
+-- what the word of a row of the pool has
+pub bits-is : (z : Shape) (words : List ℕ) (shard row : ℕ) → has_row z shard row ≡ true → bits_in z words shard row ≡ slice_index words (bits_index z shard row)
+bits-is z words shard row has = ap (λ (b : Bool). cond b (slice_index words (bits_index z shard row)) 0) has
+
 -- a word of the table is changed, and that word of the pool alone
 pub set-word : (z : Shape) → IsShape z → (words : List ℕ) → length words ≡ word_count z → (word : Word) → has_word z word ≡ true → (value : ℕ)
     → words_in z (slice_set words (index_in z word) value) ≡ with_value (words_in z words) word value
@@ -89,7 +142,7 @@ set-word z ok words count (Life place) has value =
     dite (ℕ_discrete p place)
     (λ e. here (Life p) (ap Life e) ∙ sym (at-here old place value p e))
     (λ n. other (Life p) (λ e. n (cc e)) ∙ sym (at-else old place value p n)) in
-    λ k. record { life = λ p. lives p k; link = λ p. other (Link p) (λ e. absurd (cc e)) k; stack = λ s l. other (Stack s l) (λ e. absurd (cc e)) k }
+    λ k. record { life = λ p. lives p k; link = λ p. other (Link p) (λ e. absurd (cc e)) k; stack = λ s l. other (Stack s l) (λ e. absurd (cc e)) k; bits = λ s r. other-row z ok words (Life place) has value s r k }
 set-word z ok words count (Link place) has value =
     let here = set-here z ok words count (Link place) has value in
     let other = set-other z ok words count (Link place) has value in
@@ -98,7 +151,7 @@ set-word z ok words count (Link place) has value =
     dite (ℕ_discrete p place)
     (λ e. here (Link p) (ap Link e) ∙ sym (at-here old place value p e))
     (λ n. other (Link p) (λ e. n (cc e)) ∙ sym (at-else old place value p n)) in
-    λ k. record { life = λ p. other (Life p) (λ e. absurd (cc e)) k; link = λ p. links p k; stack = λ s l. other (Stack s l) (λ e. absurd (cc e)) k }
+    λ k. record { life = λ p. other (Life p) (λ e. absurd (cc e)) k; link = λ p. links p k; stack = λ s l. other (Stack s l) (λ e. absurd (cc e)) k; bits = λ s r. other-row z ok words (Link place) has value s r k }
 set-word z ok words count (Stack shard lane) has value =
     let here = set-here z ok words count (Stack shard lane) has value in
     let other = set-other z ok words count (Stack shard lane) has value in
@@ -109,4 +162,4 @@ set-word z ok words count (Stack shard lane) has value =
     (λ e. here (Stack s l) (cc (d, e)) ∙ sym (two-here old shard lane value s l d e))
     (λ n. other (Stack s l) (λ e. n (cc e)) ∙ sym (two-else old shard lane value s l n)))
     (λ n. other (Stack s l) (λ e. n (cc e)) ∙ sym (two-row old shard lane value s l n)) in
-    λ k. record { life = λ p. other (Life p) (λ e. absurd (cc e)) k; link = λ p. other (Link p) (λ e. absurd (cc e)) k; stack = λ s l. stacks s l k }
+    λ k. record { life = λ p. other (Life p) (λ e. absurd (cc e)) k; link = λ p. other (Link p) (λ e. absurd (cc e)) k; stack = λ s l. stacks s l k; bits = λ s r. other-row z ok words (Stack shard lane) has value s r k }

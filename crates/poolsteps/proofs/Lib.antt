@@ -46,3 +46,4 @@ pub mod Joining
 pub mod raw
 pub mod shares
 pub mod own_rows
+pub mod BitSteps

@@ -17,17 +17,17 @@ use Rattle.poolsteps.specs.ShareLaws.{IsQuiet}
 use Rattle.poolsteps.proofs.shares.Acting.{acts-share-law}
 use Rattle.steplaws.specs.declared.pending.Pending.{Pending}
 use Rattle.steplaws.specs.Facts.{Words, Lanes, with_under, Moment, moment, value_of}
-use Rattle.steplaws.specs.StepLaws.{with_act, IsAllowed, Keeps}
+use Rattle.steplaws.specs.StepLaws.{with_act, IsAllowed, Keeps, KeepsBits}
 use Rattle.steplaws.proofs.Updates.{at-here, at-else}
 use Rattle.poolsteps.specs.declared.view.LaneRecord.{LaneRecord}
 use Rattle.poolsteps.specs.declared.view.View.{View}
-use Rattle.poolsteps.specs.Layout.{has_word, index_in, words_in, slots_in}
+use Rattle.poolsteps.specs.Layout.{has_word, index_in, has_row, bits_index, words_in, slots_in}
 use Rattle.poolsteps.specs.Views.{the_lane, IsOne, status_of, known_in, acts_in, rooms_in, after_step}
 use Rattle.poolsteps.specs.Rule.{World, Stands, Kept}
-use Rattle.poolsteps.specs.Told.{Steps, LifeSteps}
-use Rattle.poolsteps.proofs.LayoutLemmas.{value-is}
+use Rattle.poolsteps.specs.Told.{Steps, RowSteps, LifeSteps}
+use Rattle.poolsteps.proofs.LayoutLemmas.{value-is, bits-is}
 use Rattle.poolsteps.proofs.Owning.{IsOwned}
-use Rattle.poolsteps.proofs.SeatLemmas.{step_view, world_after, IsBy, IsAt, IsPoint, Agrees, OthersStay, is-at, is-point, step-stands}
+use Rattle.poolsteps.proofs.SeatLemmas.{step_view, world_after, IsBy, IsAt, IsPoint, Agrees, OthersStay, is-at, is-point, step-stands, bits-stands}
 
 -- the words, the history and the lanes of a world
 abbrev pub moment_of : Words → World → Moment
@@ -92,6 +92,22 @@ module _ {S T : Type 0} (content : T → List ℕ) (room : T → ℕ) (spots : �
     pub others : OthersStay (the_lane me.0).lane w.lanes after w.stock stock
     -- the view after it has seen the whole history, with its act
     pub told : (v : Me S View) → SawAll w act r v.0 → Steps z kind (value_of words word) left me v act r → then (value_of words word) v
+
+  -- the lane makes a step that leaves this value in the word of a row, and is told this
+  pub record MakesBits (shard row : ℕ) (me : Me S View) (left : ℕ) (then : ℕ → Me S View → Type 0) : Type 0 where
+    pub act : Option Act
+    pub after : Lanes
+    pub stock : Stock
+    pub r : LaneRecord
+    pub keeps : KeepsBits z (moment_of words w) shard row left act after
+    pub shared : Shared content room spots z (with_act w.history act) (w.kept ++ rooms_in r act) slots stock
+    pub by : IsBy (the_lane me.0).lane act
+    pub owned : IsOwned act
+    pub lane_is : r.lane ≡ (the_lane me.0).lane
+    pub mine : r.mine ≡ (the_lane me.0).mine ++ acts_in act
+    pub agrees : Agrees r after stock
+    pub others : OthersStay (the_lane me.0).lane w.lanes after w.stock stock
+    pub told : (v : Me S View) → SawAll w act r v.0 → RowSteps z me v act r → then (words.bits shard row) v
 
   -- the lane makes a step that leaves this value in the lifecycle word of the place, and is told this
   pub record Makes (place : ℕ) (me : Me S View) (left : ℕ) (then : ℕ → Me S View → Type 0) : Type 0 where
@@ -164,6 +180,33 @@ module _ {T : Type 0} (content : T → List ℕ) (room : T → ℕ) (spots : ℕ
       let e = step-stands content room spots z id me one w s.homes s.words s.views st at made.kind word left made.act made.after made.stock made.r inside
       made.keeps made.shared made.by made.owned made.lane_is made.mine made.agrees made.others in
       let told = made.told (view, me.1) (refl, refl) (subst (λ (x : ℕ). Steps z made.kind x left me (view, me.1) made.act made.r) (sym is) e.1) in (
+        view,
+        table.keeps,
+        tt,
+        (n, subst (λ (x : ℕ). Stands content room spots z n s.homes (slice_set s.words i (f x)) (slice_set s.views id view)) is e.0),
+        subst (λ (x : ℕ). then x (view, me.1)) is told,
+      )
+
+  -- and so is a step of the word of a row
+  pub bits-allows : (shard row : ℕ) → has_row z shard row ≡ true → (f : ℕ → ℕ) (then : ℕ → Me (Option (Share T)) View → Type 0)
+      → ((words : Words) (w : World) (slots : Slots T) → IsPoint content room spots z words w slots → IsAt z w me.0 → words.bits shard row < 18446744073709551616
+      → MakesBits content room spots z words w slots shard row me (f (words.bits shard row)) then)
+      → Allows (Kept content room spots z) slot_count id me (bits_index z shard row) f then
+  bits-allows shard row inside f then makes s kept homes at small =
+      let w : World = kept.0 in
+      let st = kept.1 in
+      let words : Words = words_in z s.words in
+      let i : ℕ = bits_index z shard row in
+      let is : words.bits shard row ≡ slice_index s.words i = bits-is z s.words shard row inside in
+      let point = is-point content room spots z id me one w s.homes s.words s.views st at in
+      let here = is-at content room spots z id me one w s.homes s.words s.views st at in
+      let made = makes words w (slots_in z s.homes) point here (subst (λ (n : ℕ). n < 18446744073709551616) (sym is) small) in
+      let left : ℕ = f (words.bits shard row) in
+      let n : World = world_after w made.act made.after made.stock made.r in
+      let view : View = step_view me.0 made.r n in
+      let e = bits-stands content room spots z id me one w s.homes s.words s.views st at shard row left made.act made.after made.stock made.r inside
+      made.keeps made.shared made.by made.owned made.lane_is made.mine made.agrees made.others in
+      let told = made.told (view, me.1) (refl, refl) e.1 in (
         view,
         table.keeps,
         tt,

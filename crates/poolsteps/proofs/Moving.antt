@@ -9,7 +9,7 @@ use lib.ListN.{get_elem?}
 use Rattle.atomic_table.specs.Table as table
 use Rattle.atomic_table.specs.Table.{Me, put_back, rest, Allows}
 use Rattle.keybits.specs.declared.shape.Shape.{Shape}
-use Rattle.keybits.specs.Shapes.{is_place}
+use Rattle.keybits.specs.Shapes.{callers, is_place}
 use Rattle.seqpool.specs.Pool.{Phase, pool_after}
 use Rattle.poolsteps.specs.Share.{Share}
 use Rattle.steplaws.specs.Facts.{is_home}
@@ -33,7 +33,7 @@ use Rattle.poolsteps.proofs.SeatLemmas.{look_view, restocked_world, IsAt, Agrees
 use Rattle.poolsteps.proofs.SlotLemmas.{slot-is, slots-set}
 
 module _ {T : Type 0} (content : T → List ℕ) (room : T → ℕ) (spots : ℕ → CellSpot) (z : Shape) (id : ℕ) (me : Me (Option (Share T)) View) (one : IsOne me.0)
-    (place number : ℕ) (inside : is_place z place ≡ true) (below : number < z.lanes) (may : MayTouch z me.0 place number) where
+    (place number : ℕ) (inside : is_place z place ≡ true) (below : number < (callers z)) (may : MayTouch z me.0 place number) where
   abbrev r : LaneRecord
   r = the_lane me.0
 
@@ -59,7 +59,7 @@ module _ {T : Type 0} (content : T → List ℕ) (room : T → ℕ) (spots : ℕ
     phase = (pool_after z w.history place).phase
 
     -- no other lane touched the slot
-    none-touched : status_of r place number ≡ Untouched → (l : ℕ) → l < z.lanes → q.status l place number ≡ Untouched
+    none-touched : status_of r place number ≡ Untouched → (l : ℕ) → l < (callers z) → q.status l place number ≡ Untouched
     none-touched alone l less = dite (ℕ_discrete l lane)
         (λ e. ap (λ (m : ℕ). q.status m place number) e ∙ (sym (here.record_is.deeds place number) ∙ alone))
         (λ other. untouched-is (q.status l place number)

@@ -4,7 +4,7 @@ use Rattle.std.proofs.Common.{◌≡◌, ◌≢◌, ◌⊎◌, inl, inr, ⊎_eli
 use Rattle.atomic_table.specs.Table.{Me}
 use Rattle.keybits.specs.declared.shape.Shape.{Shape}
 use Rattle.keybits.specs.declared.step.Kind.TheVariants as kinds
-use Rattle.keybits.specs.Shapes.{is_place}
+use Rattle.keybits.specs.Shapes.{callers, is_place}
 use Rattle.keybits.specs.Keys.{place_of, generation_of, is_key}
 use Rattle.keybits.specs.Counts.{times}
 use Rattle.keybits.specs.Words.{state_in, count_in}
@@ -79,7 +79,7 @@ module _ {S T : Type 0} (content : T → List ℕ) (room : T → ℕ) (spots : �
       let all : HasAll (reclaimer w.history place) r.lane (pool_after z w.history place).phase =
       subst (HasAll (reclaimer w.history place) r.lane) (sym filling.with_lane) refl in ⊎_elim
       (λ (known : c ≡ known_of r place). inl (known ∙ (at.record_is.cells place ∙ point.shared.owned r.lane place at.record_is.inside all)))
-      (λ (out : (number : ℕ) → number < z.lanes → (status_of r place number ≡ Emptied) ⊎ (status_of r place number ≡ InHand)).
+      (λ (out : (number : ℕ) → number < (callers z) → (status_of r place number ≡ Emptied) ⊎ (status_of r place number ≡ InHand)).
       inr (λ number below. subst (λ (s : Status). (s ≡ Emptied) ⊎ (s ≡ InHand)) (at.record_is.deeds place number) (out number below)))
       may
 

@@ -74,7 +74,7 @@ others-stay lane w place own link l other = record {
 }
 
 -- where a place is with a seat's lane now, it was when the seat last saw, and has the room that it had
-room-known : (z : Shape) (w : World) (v : View) → IsLegal z w.history → IsAt z w v → (place : ℕ)
+pub room-known : (z : Shape) (w : World) (v : View) → IsLegal z w.history → IsAt z w v → (place : ℕ)
     → (pool_after z w.history place).phase ≡ with (the_lane v).lane → room_of w.history w.kept place ≡ room_of v.seen v.rooms place
 room-known z w v legal at place is =
     let lane : ℕ = (the_lane v).lane in
@@ -85,7 +85,7 @@ room-known z w v legal at place is =
     ap (λ (acts : List Act). room_of acts w.kept place) at.seen ∙ (ap (λ (beside : List ℕ). room_of (v.seen ++ at.between) beside place) at.rooms ∙ rights.3)
 
 module _ {S T : Type 0} (content : T → List ℕ) (room : T → ℕ) (spots : ℕ → CellSpot) (z : Shape) (words : Words) (w : World) (slots : Slots T)
-    (point : IsPoint content room spots z words w slots) (me : Me S View) (at : IsAt z w me.0) (top : ℕ) where
+    (point : IsPoint content room spots z words w slots) (me : Me S View) (at : IsAt z w me.0) (top : ℕ) (mine : (the_lane me.0).lane < z.lanes) where
   abbrev r : LaneRecord
   r = the_lane me.0
 
@@ -122,7 +122,7 @@ module _ {S T : Type 0} (content : T → List ℕ) (room : T → ℕ) (spots : �
   module _ (now : HasUnderWay z (moment_of words w) r.lane (Returns place (Some top) failed)) where
     -- a PUSH that finds the expected top
     succeeds : IsAtRest z me.0 place → word ≡ top → MakesPush (link_to place)
-    succeeds rests hit = let keeps = push-succeeds-law z (moment_of words w) r.lane place top failed point.rule now hit in record {
+    succeeds rests hit = let keeps = push-succeeds-law z (moment_of words w) r.lane place top failed point.rule mine now hit in record {
       kind = kinds.Push top (link_to place);
       act = Some (acts.Home r.lane place);
       after = with_pushed w.lanes (shard_of place) r.lane (link_to place);
@@ -145,7 +145,7 @@ module _ {S T : Type 0} (content : T → List ℕ) (room : T → ℕ) (spots : �
     fails-law last = subst
         (λ (t : ℕ). HasUnderWay z (moment_of words w) r.lane (Returns place (Some t) failed) → word ≢ t
         → (word ≡ 0) × Keeps z (moment_of words w) (kinds.Push t (link_to place)) at_stack 0 None (with_under w.lanes r.lane (Returns place None true)))
-        (sym last) (push-fails-law z (moment_of words w) r.lane place failed point.rule) now
+        (sym last) (push-fails-law z (moment_of words w) r.lane place failed point.rule mine) now
 
     -- the first PUSH, which expects what the lane last pushed, and finds another word
     fails : failed ≡ false → top ≡ pushed_in r.pushed (shard_of place) → word ≢ top → MakesPush word
@@ -161,7 +161,7 @@ module _ {S T : Type 0} (content : T → List ℕ) (room : T → ℕ) (spots : �
     finds-again again from_zero =
         let under : Returns place (Some top) failed ≡ Returns place (Some 0) true =
         ap (λ (t : ℕ). Returns place (Some t) failed) from_zero ∙ ap (λ (b : Bool). Returns place (Some 0) b) again in
-        (push-again-law z (moment_of words w) r.lane place point.rule (now.0, now.1 ∙ under)).0 ∙ sym from_zero
+        (push-again-law z (moment_of words w) r.lane place point.rule mine (now.0, now.1 ∙ under)).0 ∙ sym from_zero
 
     -- either of them, by the word that it finds
     push-here : AimsAt r place top → IsAtRest z me.0 place → MakesPush (either (eqb word top) (link_to place) word)

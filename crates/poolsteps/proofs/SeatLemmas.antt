@@ -1,5 +1,6 @@
 -- One lane's seat steps: the table's rule goes on, and what the seat is told.
 use Rattle.poolsteps.specs.Spot.{Spot as CellSpot}
+use Rattle.keybits.specs.Shapes.{callers}
 use Rattle.std.proofs.Common.{◌≡◌, ◌≢◌, inl, ⊎_elim, ℕ, zero, suc, ◌+◌, ◌<◌, true, cond, eqb, List, [], ◌∷◌, ◌++◌, length, length-append, length-set, take, drop, take-append-drop, Option, Some, None, slice_index, slice_index_or, slice_set, refl, ap, sym, ◌∙◌, subst, arith, append-nil}
 use Rattle.std.specs.List.{All}
 use Rattle.std.proofs.lemmas.List.{length-take-le}
@@ -21,17 +22,17 @@ use Rattle.seqpool.proofs.Growth.{legal-front, acts-mine, acts-others}
 use Rattle.poolsteps.specs.Share.{Share}
 use Rattle.poolsteps.specs.Shares.{Slots, Stock, Shared}
 use Rattle.steplaws.specs.Facts.{Words, Lanes, moment, Rule}
-use Rattle.steplaws.specs.StepLaws.{with_act, Keeps}
+use Rattle.steplaws.specs.StepLaws.{with_act, Keeps, KeepsBits}
 use Rattle.poolsteps.specs.declared.view.LaneRecord.{LaneRecord}
 use Rattle.poolsteps.specs.declared.view.Heard.{Heard}
 use Rattle.poolsteps.specs.declared.view.View.{View}
-use Rattle.poolsteps.specs.Layout.{has_word, index_in, words_in, slot_count, slots_in}
+use Rattle.poolsteps.specs.Layout.{has_word, index_in, has_row, bits_index, words_in, slot_count, slots_in}
 use Rattle.poolsteps.specs.Views.{the_lane, IsOne, pushed_in, status_of, known_of, In, times_in, acts_in, rooms_in}
 use Rattle.poolsteps.specs.Rule.{World, IsRecord, IsBeginning, HasSeen, AreSeats, Stands}
 use Rattle.poolsteps.specs.Seats.{heard_of}
 use Rattle.poolsteps.specs.Owners.{ArePublishedByOwners}
-use Rattle.poolsteps.specs.Told.{GoesOn, Steps}
-use Rattle.poolsteps.proofs.LayoutLemmas.{value-is, set-word}
+use Rattle.poolsteps.specs.Told.{GoesOn, Steps, RowSteps}
+use Rattle.poolsteps.proofs.LayoutLemmas.{value-is, set-word, set-bits}
 use Rattle.poolsteps.proofs.Owning.{IsOwned, owners-with, owners-front}
 use Rattle.poolsteps.proofs.Solo.{only-lane, quiet-now}
 use Rattle.poolsteps.proofs.ViewLemmas.{times-some, in-one, among-set, among-two, prefix-self, prefix-trans, act-behind, none-behind, acts-between, shorter-begins}
@@ -268,7 +269,7 @@ module _ {T : Type 0} (content : T → List ℕ) (room : T → ℕ) (spots : ℕ
       let n : World = world_after w act after stock r in
       let own = own-record z w views st.seats id me.0 at one in
       let is : IsRecord z n r = record {
-        inside = subst (λ (l : ℕ). l < z.lanes) (sym same) own.inside;
+        inside = subst (λ (l : ℕ). l < (callers z)) (sym same) own.inside;
         mine = mine ∙ (ap (λ (acts : List Act). acts ++ acts_in act) own.mine
             ∙ (sym (acts-own lane w.history act by) ∙ ap (λ (l : ℕ). acts_of l n.history) (sym same)));
         under = agrees.under;
@@ -300,6 +301,51 @@ module _ {T : Type 0} (content : T → List ℕ) (room : T → ℕ) (spots : ℕ
         },
       )
 
+  -- a step on the word of a row that keeps the rule, after which the seat's lane has this record
+  pub bits-stands : (shard row value : ℕ) (act : Option Act) (after : Lanes) (stock : Stock) (r : LaneRecord) → has_row z shard row ≡ true
+      → KeepsBits z (moment (words_in z words) w.history w.lanes) shard row value act after
+      → Shared content room spots z (with_act w.history act) (w.kept ++ rooms_in r act) (slots_in z homes) stock → IsBy (the_lane me.0).lane act → IsOwned act
+      → r.lane ≡ (the_lane me.0).lane → r.mine ≡ (the_lane me.0).mine ++ acts_in act → Agrees r after stock
+      → OthersStay (the_lane me.0).lane w.lanes after w.stock stock
+      → Stands content room spots z (world_after w act after stock r) homes (slice_set words (bits_index z shard row) value)
+      (slice_set views id (step_view me.0 r (world_after w act after stock r)))
+      × RowSteps z me (step_view me.0 r (world_after w act after stock r), me.1) act r
+  bits-stands shard row value act after stock r inside keeps shared by owned same mine agrees stay =
+      let lane : ℕ = (the_lane me.0).lane in
+      let n : World = world_after w act after stock r in
+      let own = own-record z w views st.seats id me.0 at one in
+      let is : IsRecord z n r = record {
+        inside = subst (λ (l : ℕ). l < (callers z)) (sym same) own.inside;
+        mine = mine ∙ (ap (λ (acts : List Act). acts ++ acts_in act) own.mine
+            ∙ (sym (acts-own lane w.history act by) ∙ ap (λ (l : ℕ). acts_of l n.history) (sym same)));
+        under = agrees.under;
+        pushed = agrees.pushed;
+        chain = agrees.chain;
+        deeds = agrees.deeds;
+        cells = agrees.cells;
+      } in
+      let grows = act-behind w.history act in
+      let paired = still-paired w.kept w.history act r st.paired in
+      let owners = owners-with w.history act st.owners owned in (
+        record {
+          count = length-set words (bits_index z shard row) value ∙ st.count;
+          deep = st.deep;
+          paired = paired;
+          rule = subst (λ (ws : Words). Rule z (moment ws n.history after)) (sym (set-bits z st.rule.limits words st.count shard row inside value)) keeps.rule;
+          owners = owners;
+          shared = shared;
+          seats = seats-after z w views st.seats id me.0 at one n (acts_in act) (rooms_in r act) grows refl r is same (me.0.steps + 1) me.0.looks
+              paired (acts-stay lane w.history act by) stay;
+        },
+        record {
+          goes = goes-on z w views st.seats id me.0 at one n (acts_in act) (rooms_in r act) grows refl r is same (me.0.steps + 1) me.0.looks
+              st.paired _ keeps.rule owners;
+          held = refl;
+          steps = refl;
+          looks = refl;
+        },
+      )
+
   -- a look at any word, after which the slots and the shares are these, and the seat's lane has this record
   pub look-stands : (index : ℕ) (homes_now : List (maybe.Option (Option (Share T)))) (stock : Stock) (r : LaneRecord) → length homes_now ≡ slot_count z
       → Shared content room spots z w.history w.kept (slots_in z homes_now) stock
@@ -312,7 +358,7 @@ module _ {T : Type 0} (content : T → List ℕ) (room : T → ℕ) (spots : ℕ
       let n : World = restocked_world w stock in
       let own = own-record z w views st.seats id me.0 at one in
       let is : IsRecord z n r = record {
-        inside = subst (λ (l : ℕ). l < z.lanes) (sym same) own.inside;
+        inside = subst (λ (l : ℕ). l < (callers z)) (sym same) own.inside;
         mine = mine ∙ (own.mine ∙ ap (λ (l : ℕ). acts_of l w.history) (sym same));
         under = agrees.under;
         pushed = agrees.pushed;

@@ -7,7 +7,7 @@ use lib.ListN.{get_elem?}
 use Rattle.atomic_table.proofs.Lists.{set_here, set_else}
 use Rattle.keybits.specs.declared.shape.Shape.{Shape}
 use Rattle.keybits.specs.Places.{shard_of}
-use Rattle.keybits.specs.Shapes.{IsShape, is_place, shard_places, index_of}
+use Rattle.keybits.specs.Shapes.{callers, IsShape, is_place, shard_places, index_of}
 use Rattle.keybits.proofs.ShapeLemmas.{is_place-parts, index_of-lt, index_of-injective, position_of-lt, shape_bounds}
 use Rattle.poolsteps.specs.Share.{Share}
 use Rattle.poolsteps.specs.Shares.{with_slot}
@@ -27,10 +27,10 @@ pub row-small : (z : Shape) → IsShape z → slot_row z ≤ 2880896
 row-small z ok = let bounds = shape_bounds z ok in omega (arith, bounds.all, bounds.lanes)
 
 -- so are all rows of lanes before one
-pub rows-small : (z : Shape) (lane row : ℕ) → IsShape z → lane ≤ z.lanes → row ≡ slot_row z → lane * row ≤ 184377344
+pub rows-small : (z : Shape) (lane row : ℕ) → IsShape z → lane ≤ (callers z) → row ≡ slot_row z → lane * row ≤ 773334815825920
 rows-small z lane row ok low is =
-    let few : lane ≤ 64 = omega (arith, low, (shape_bounds z ok).lanes) in
-    mul-le lane row 64 2880896 few (omega (arith, is, row-small z ok))
+    let few : lane ≤ 268435520 = omega (arith, low, (shape_bounds z ok).lanes, ok.guests) in
+    mul-le lane row 268435520 2880896 few (omega (arith, is, row-small z ok))
 
 -- each shard has the slots of its places in a row, and those behind them
 in-shards : (shard places index : ℕ) → shard * (places + SHARDS_APART) + index ≡ shard * places + index + SHARDS_APART * shard
@@ -45,9 +45,9 @@ start-injective z p q p_inside q_inside same =
     (in-shards (shard_of p) (shard_places z) (index_of z p) ∙ (same ∙ sym (in-shards (shard_of q) (shard_places z) (index_of z q)))) in
     index_of-injective z p q p_inside q_inside both.0 both.1
 
-pub slot-below : (z : Shape) (place number : ℕ) → is_place z place ≡ true → number < z.lanes → slot_index z place number < slot_count z
+pub slot-below : (z : Shape) (place number : ℕ) → is_place z place ≡ true → number < (callers z) → slot_index z place number < slot_count z
 slot-below z place number inside below =
-    let deep = mul-add-lt number (slot_row z) (slot_start z place) z.lanes below (in-row z place inside) in omega arith
+    let deep = mul-add-lt number (slot_row z) (slot_start z place) (callers z) below (in-row z place inside) in omega arith
 
 -- two slots of the pool at one index are of one place and of one lane
 pub slot-apart : (z : Shape) → IsShape z → (p k q m : ℕ) → is_place z p ≡ true → is_place z q ≡ true → slot_index z p k ≡ slot_index z q m → (p ≡ q) × (k ≡ m)
@@ -56,14 +56,14 @@ slot-apart z ok p k q m p_inside q_inside same =
     (start-injective z p q p_inside q_inside both.1, both.0)
 
 -- what a slot of the pool has
-pub slot-is : {T : Type 0} (z : Shape) (homes : List (maybe.Option (Option (Share T)))) (place number : ℕ) → is_place z place ≡ true → number < z.lanes
+pub slot-is : {T : Type 0} (z : Shape) (homes : List (maybe.Option (Option (Share T)))) (place number : ℕ) → is_place z place ≡ true → number < (callers z)
     → slots_in z homes place number ≡ get_elem? homes (slot_index z place number)
 slot-is {T} z homes place number inside below =
     ap (λ (b : Bool). let slot : maybe.Option (maybe.Option (Option (Share T))) = cond b (get_elem? homes (slot_index z place number)) maybe.none in slot)
-    (and_from (is_place z place) (nat_lt number z.lanes) inside (lt-ltb number z.lanes below))
+    (and_from (is_place z place) (nat_lt number (callers z)) inside (lt-ltb number (callers z) below))
 
 module _ {T : Type 0} (z : Shape) (ok : IsShape z) (homes : List (maybe.Option (Option (Share T)))) (deep : length homes ≡ slot_count z)
-    (place number : ℕ) (inside : is_place z place ≡ true) (below : number < z.lanes) (value : maybe.Option (Option (Share T))) where
+    (place number : ℕ) (inside : is_place z place ≡ true) (below : number < (callers z)) (value : maybe.Option (Option (Share T))) where
   abbrev At : Type 0
   At = maybe.Option (maybe.Option (Option (Share T)))
 
@@ -78,14 +78,14 @@ module _ {T : Type 0} (z : Shape) (ok : IsShape z) (homes : List (maybe.Option (
 
   set-other : (p k : ℕ) → slot_index z p k ≢ slot_index z place number → slots_in z after p k ≡ slots_in z homes p k
   set-other p k apart =
-      ap (λ (slot : At). let x : At = cond (is_place z p && nat_lt k z.lanes) slot maybe.none in x) (set_else homes (slot_index z place number) (slot_index z p k) value apart)
+      ap (λ (slot : At). let x : At = cond (is_place z p && nat_lt k (callers z)) slot maybe.none in x) (set_else homes (slot_index z place number) (slot_index z p k) value apart)
 
   -- a slot that isn't the one keeps what it had
   set-else : (p k : ℕ) → ((p ≡ place) × (k ≡ number) → ⊥) → slots_in z after p k ≡ slots_in z homes p k
   set-else p k other = ⊎_elim
       (λ (is : is_place z p ≡ true). set-other p k (λ same. other (slot-apart z ok p k place number is inside same)))
       (λ (isnt : is_place z p ≡ false).
-      let none : (is_place z p && nat_lt k z.lanes) ≡ false = and_left (is_place z p) (nat_lt k z.lanes) isnt in
+      let none : (is_place z p && nat_lt k (callers z)) ≡ false = and_left (is_place z p) (nat_lt k (callers z)) isnt in
       ap (λ (b : Bool). let x : At = cond b (get_elem? after (slot_index z p k)) maybe.none in x) none
       ∙ sym (ap (λ (b : Bool). let x : At = cond b (get_elem? homes (slot_index z p k)) maybe.none in x) none))
       (cases_Bool (is_place z p))

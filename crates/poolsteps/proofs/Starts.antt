@@ -8,7 +8,7 @@ use native.Mathlib.Decide.{ℕ_discrete}
 use lib.ListN.{get_elem?}
 use Rattle.atomic_table.specs.Table.{opening}
 use Rattle.keybits.specs.declared.shape.Shape.{Shape}
-use Rattle.keybits.specs.Shapes.{IsShape}
+use Rattle.keybits.specs.Shapes.{callers, IsShape}
 use Rattle.poolsteps.specs.Share.{Share}
 use Rattle.poolsteps.specs.Shares.{first_stock}
 use Rattle.poolsteps.proofs.shares.Starting.{first-share-law}
@@ -51,7 +51,7 @@ each-once lane from (suc count) = dite (ℕ_discrete from lane)
 abbrev first_world : World
 first_world = record { history = []; kept = []; lanes = first_lanes; stock = first_stock }
 
-first-is-record : (z : Shape) (lane : ℕ) → lane < z.lanes → IsRecord z first_world (first_record lane)
+first-is-record : (z : Shape) (lane : ℕ) → lane < (callers z) → IsRecord z first_world (first_record lane)
 first-is-record z lane inside = record {
   inside = inside;
   mine = refl;
@@ -72,16 +72,16 @@ alone v u (suc seat) is = absurd (some-ne-none u (sym is))
 -- its lanes did nothing
 first-sound : (z : Shape) → IsSound z first_world (first_view z)
 first-sound z = record {
-  records = λ r among. let found = in-first-records r 0 z.lanes among in
+  records = λ r among. let found = in-first-records r 0 (callers z) among in
       subst (IsRecord z first_world) (sym found.3) (first-is-record z found.0 (omega arith));
   seen = record { acts = ([], refl); rooms = ([], refl); paired = refl };
   told = All-nil (IsBeginning first_world);
-  own = λ r among. ap (λ (x : LaneRecord). x.mine) (in-first-records r 0 z.lanes among).3;
+  own = λ r among. ap (λ (x : LaneRecord). x.mine) (in-first-records r 0 (callers z) among).3;
 }
 
 first-seats : (z : Shape) → AreSeats z first_world (first_view z ∷ [])
 first-seats z = all-sound z first_world (first_view z ∷ [])
-    (λ seat v is. subst (IsSound z first_world) (alone (first_view z) v seat is) (first-sound z)) (λ lane. omega (arith, each-once lane 0 z.lanes))
+    (λ seat v is. subst (IsSound z first_world) (alone (first_view z) v seat is) (first-sound z)) (λ lane. omega (arith, each-once lane 0 (callers z)))
 
 -- ---- the table
 

@@ -40,21 +40,21 @@ leads-some links shard word (place ∷ more) leads some = omega arith
 
 -- after a lane's collect the place is with it, by what its seat saw, and has the room that it had
 module _ (z : Shape) (history : List Act) (kept : List ℕ) (lane : ℕ) (places : List ℕ) (place : ℕ) (r : LaneRecord) (v : View) where
-  has-place : v.seen ≡ history ++ acts.Collect lane places ∷ [] → v.lanes ≡ r ∷ [] → r.lane ≡ lane → has places place ≡ true → HasPlace z v place
+  pub has-place : v.seen ≡ history ++ acts.Collect lane places ∷ [] → v.lanes ≡ r ∷ [] → r.lane ≡ lane → has places place ≡ true → HasPlace z v place
   has-place seen lone own of =
       let act : Act = acts.Collect lane places in
       let phase : (pool_after z v.seen place).phase ≡ with lane = ap (λ (acts : List Act). (pool_after z acts place).phase) seen
       ∙ (ap (λ (P : Pool). (P place).phase) (pool-snoc z fresh history act) ∙ ap (λ (x : Spot). x.phase) (after-here z (pool_after z history) act place of)) in
       rw phase (sym (ap (λ (rs : List LaneRecord). (head_record rs).lane) lone ∙ own))
 
-  room-still : v.seen ≡ history ++ acts.Collect lane places ∷ [] → v.rooms ≡ kept ++ 0 ∷ [] → length kept ≡ length history
+  pub room-still : v.seen ≡ history ++ acts.Collect lane places ∷ [] → v.rooms ≡ kept ++ 0 ∷ [] → length kept ≡ length history
       → room_of v.seen v.rooms place ≡ room_of history kept place
   room-still seen rooms same = ap (λ (acts : List Act). room_of acts v.rooms place) seen
       ∙ (ap (λ (beside : List ℕ). room_of (history ++ acts.Collect lane places ∷ []) beside place) rooms
       ∙ ap (λ (f : ℕ → ℕ). f place) (rooms-behind (λ _. 0) history kept (acts.Collect lane places) 0 same))
 
 module _ {S T : Type 0} (content : T → List ℕ) (room : T → ℕ) (spots : ℕ → CellSpot) (z : Shape) (words : Words) (w : World) (slots : Slots T)
-    (point : IsPoint content room spots z words w slots) (me : Me S View) (from : ℕ) (at : IsAt z w me.0) (below : from < z.lanes) (apart : from ≢ (the_lane me.0).lane) where
+    (point : IsPoint content room spots z words w slots) (me : Me S View) (from : ℕ) (at : IsAt z w me.0) (own : (the_lane me.0).lane < z.lanes) (below : from < z.lanes) (apart : from ≢ (the_lane me.0).lane) where
   abbrev r : LaneRecord
   r = the_lane me.0
 
@@ -68,7 +68,7 @@ module _ {S T : Type 0} (content : T → List ℕ) (room : T → ℕ) (spots : �
   -- of a stack that is empty: the rule says so of the history now, and this is what the seat then has seen
   takes-none : word ≡ 0 → MakesTake
   takes-none none =
-      let law = take-none-law z (moment_of words w) r.lane from point.rule at.record_is.inside below apart none in
+      let law = take-none-law z (moment_of words w) r.lane from point.rule own below apart none in
       let last = returner-law z (moment_of words w) point.rule r.lane in
       let none_from : NoneFrom z w.history r.lane from = λ place is. ((last place is).0, (last place is).1, law.1 place is) in record {
         kind = kinds.Take;
@@ -93,13 +93,13 @@ module _ {S T : Type 0} (content : T → List ℕ) (room : T → ℕ) (spots : �
   -- of a stack that isn't empty: the chain after it says that each of its places is one of the shape
   takes-chain : word ≢ 0 → MakesTake
   takes-chain some =
-      let law = take-chain-law z (moment_of words w) r.lane from point.rule at.record_is.inside below apart some in
+      let law = take-chain-law z (moment_of words w) r.lane from point.rule own below apart some in
       let places : List ℕ = law.0 in
       let act : Act = acts.Collect r.lane places in
       let keeps = law.3 in
       let chain = at-here w.lanes.chain r.lane places r.lane refl in
       let inside = chain-inside z (moment_after (moment_of words w) (Stack r.lane from) 0 (Some act) (with_chain w.lanes r.lane places)) r.lane places
-      keeps.rule at.record_is.inside chain in
+      keeps.rule own chain in
       let leads = leads-first z words.link r.lane word places law.1 law.2 inside in
       let stored : ℕ → Stored = w.stock.stored in
       let shares = collect-share-law content room spots z w.history w.kept slots w.stock r.lane places point.paired point.shared keeps.allowed.0 keeps.allowed.1 in record {

@@ -1,5 +1,6 @@
 -- The slots that a seat has in hand: the first is exchanged and goes behind the others, one after another, until all are.
 use Rattle.poolsteps.specs.Spot.{Spot as CellSpot}
+use Rattle.keybits.specs.Shapes.{callers}
 use Rattle.std.proofs.Common.{◌≡◌, ℕ, zero, suc, ◌+◌, ◌-◌, ◌<◌, List, [], ◌∷◌, ◌++◌, Option, Some, refl, ap, sym, ◌∙◌, subst, arith, append_assoc, append-nil}
 use Rattle.atomic_table.specs.Table.{rest}
 use Rattle.keybits.specs.declared.shape.Shape.{Shape}
@@ -17,7 +18,7 @@ abbrev pub rising : ℕ → ℕ
 rising position = position
 
 abbrev pub falling : Shape → ℕ → ℕ
-falling z position = z.lanes - 1 - position
+falling z position = (callers z) - 1 - position
 
 pub rising-order : (z : Shape) → IsOrder z rising
 rising-order z = record { below = λ i less. less; apart = λ i j one other same. same; all = λ k less. (k, less, refl) }
@@ -26,7 +27,7 @@ pub falling-order : (z : Shape) → IsOrder z (falling z)
 falling-order z = record {
   below = λ i less. omega (arith, less);
   apart = λ i j one other same. omega (arith, one, other, same);
-  all = λ k less. (z.lanes - 1 - k, omega (arith, less), omega (arith, less));
+  all = λ k less. ((callers z) - 1 - k, omega (arith, less), omega (arith, less));
 }
 
 module _ {A : Type 0} (z : Shape) (place : ℕ) (order : ℕ → ℕ) (values after : ℕ → A) where
@@ -77,17 +78,17 @@ module _ {A : Type 0} (z : Shape) (place : ℕ) (order : ℕ → ℕ) (values af
 -- ---- the shares that are so taken and put
 module _ {T : Type 0} (content : T → List ℕ) (room : T → ℕ) (spots : ℕ → CellSpot) (place : ℕ) (z : Shape) (c : Stored) where
   -- the share that was found in a slot that was left alone
-  pub found-share : (values : ℕ → Option (Share T)) → AreLeft content room spots place z Untouched c values → (number : ℕ) → number < z.lanes → {xs : List (ℕ × Option (Share T))} {one other : ℕ}
-      → xs ≡ (one, values number) ∷ rest xs → (share : Share T) → xs ≡ (other, Some share) ∷ rest xs → IsShareOf content room spots place c number z.lanes share
+  pub found-share : (values : ℕ → Option (Share T)) → AreLeft content room spots place z Untouched c values → (number : ℕ) → number < (callers z) → {xs : List (ℕ × Option (Share T))} {one other : ℕ}
+      → xs ≡ (one, values number) ∷ rest xs → (share : Share T) → xs ≡ (other, Some share) ∷ rest xs → IsShareOf content room spots place c number (callers z) share
   found-share values are number below has share found =
       let left = are number below in
       let is : values number ≡ Some left.0 = cc left.1 in
       let same : Some left.0 ≡ Some share = sym is ∙ (sym (ap first_value has) ∙ ap first_value found) in
       let one_is : left.0 ≡ share = cc same in
-      subst (λ (s : Share T). IsShareOf content room spots place c number z.lanes s) one_is left.2
+      subst (λ (s : Share T). IsShareOf content room spots place c number (callers z) s) one_is left.2
 
   -- there is one
-  pub some-share : (values : ℕ → Option (Share T)) → AreLeft content room spots place z Untouched c values → (number : ℕ) → number < z.lanes → {xs : List (ℕ × Option (Share T))} {index : ℕ}
+  pub some-share : (values : ℕ → Option (Share T)) → AreLeft content room spots place z Untouched c values → (number : ℕ) → number < (callers z) → {xs : List (ℕ × Option (Share T))} {index : ℕ}
       → xs ≡ (index, values number) ∷ rest xs → (share : Share T) × (xs ≡ (index, Some share) ∷ rest xs)
   some-share values are number below {xs = xs} {index = index} has =
       let left = are number below in

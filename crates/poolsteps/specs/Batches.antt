@@ -1,5 +1,6 @@
 -- What it is to move the shares of a place from all its slots or into them, between one look and another.
 use Rattle.poolsteps.specs.Spot.{Spot as CellSpot}
+use Rattle.keybits.specs.Shapes.{callers}
 use Rattle.std.specs.Prelude.{◌≡◌, ◌≢◌, ℕ, zero, suc, ◌+◌, ◌<◌, List, [], ◌∷◌, Option}
 use Rattle.atomic_table.specs.Table.{Me}
 use Rattle.keybits.specs.declared.shape.Shape.{Shape}
@@ -24,9 +25,9 @@ held_of z place order values (suc more) = (slot_index z place (order more), valu
 
 -- each lane of the shape has one position in this order
 pub record IsOrder (z : Shape) (order : ℕ → ℕ) : Type 0 where
-  pub below : (position : ℕ) → position < z.lanes → order position < z.lanes
-  pub apart : (one other : ℕ) → one < z.lanes → other < z.lanes → order one ≡ order other → one ≡ other
-  pub all : (number : ℕ) → number < z.lanes → (position : ℕ) × (position < z.lanes) × (order position ≡ number)
+  pub below : (position : ℕ) → position < (callers z) → order position < (callers z)
+  pub apart : (one other : ℕ) → one < (callers z) → other < (callers z) → order one ≡ order other → one ≡ other
+  pub all : (number : ℕ) → number < (callers z) → (position : ℕ) × (position < (callers z)) × (order position ≡ number)
 
 -- the lane left each slot of the place so, and knows this cell there; no more of its record is changed
 pub record LeavesAll (z : Shape) (place : ℕ) (status : Status) (c : Stored) (before after : LaneRecord) : Type 0 where
@@ -37,7 +38,7 @@ pub record LeavesAll (z : Shape) (place : ℕ) (status : Status) (c : Stored) (b
   pub chain : after.chain ≡ before.chain
   pub deeds : (p number : ℕ) → p ≢ place → status_of after p number ≡ status_of before p number
   pub cells : (p : ℕ) → p ≢ place → known_of after p ≡ known_of before p
-  pub here : (number : ℕ) → number < z.lanes → status_of after place number ≡ status
+  pub here : (number : ℕ) → number < (callers z) → status_of after place number ≡ status
   pub known : known_of after place ≡ c
 
 -- by so many looks the lane left each slot of the place so, and knows this cell there
@@ -51,7 +52,7 @@ pub record GoesAll (z : Shape) (place : ℕ) (status : Status) (c : Stored) (loo
 module _ {T : Type 0} (content : T → List ℕ) (room : T → ℕ) (spots : ℕ → CellSpot) where
   -- what the slots of a place have that a lane left so
   abbrev pub AreLeft : ℕ → Shape → Status → Stored → (ℕ → Option (Share T)) → Type 0
-  AreLeft place z status c values = (number : ℕ) → number < z.lanes
+  AreLeft place z status c values = (number : ℕ) → number < (callers z)
       → Leaves content room spots place z number c status (at_home (values number))
 
   -- a look at which the seat takes all slots of a place, which its lane left so
@@ -59,7 +60,7 @@ module _ {T : Type 0} (content : T → List ℕ) (room : T → ℕ) (spots : ℕ
     pub values : ℕ → Option (Share T)
     pub are : AreLeft place z status (known_of (the_lane before.0) place) values
     pub goes : GoesAll z place InHand (known_of (the_lane before.0) place) 1 before.0 after.0
-    pub held : after.1 ≡ held_of z place order values z.lanes
+    pub held : after.1 ≡ held_of z place order values (callers z)
 
   -- a look at which the seat gives them back, as its lane leaves them
   pub record LaysAll (z : Shape) (place : ℕ) (status : Status) (c : Stored) (before after : Me (Option (Share T)) View) : Type 0 where
@@ -70,7 +71,7 @@ module _ {T : Type 0} (content : T → List ℕ) (room : T → ℕ) (spots : ℕ
   pub record AreOf (place : ℕ) (z : Shape) (c : Stored) (rest : Rest T) : Type 0 where
     pub spot_is : rest.spot ≡ spots place
     pub number_is : rest.number ≡ 0
-    pub of_is : rest.of ≡ z.lanes
+    pub of_is : rest.of ≡ (callers z)
     pub cell_is : stored_of content room (lowest_share rest) ≡ c
 
   -- OUT of all shares of a place

@@ -7,7 +7,7 @@ use Rattle.poolsteps.specs.Rule.{World, IsRecord, Stands}
 use Rattle.std.specs.Prelude.{◌≡◌, ◌<◌, ℕ, true, List, [], ◌∷◌, length, slice_get, Option, Some}
 use Rattle.atomic_table.specs.declared.shared.Seat.{Seat}
 use Rattle.keybits.specs.declared.shape.Shape.{Shape}
-use Rattle.keybits.specs.Shapes.{is_place}
+use Rattle.keybits.specs.Shapes.{callers, is_place}
 use Rattle.poolsteps.specs.declared.grid.Spot.{Spot}
 use Rattle.poolsteps.specs.declared.grid.Grid.{Grid}
 use Rattle.poolsteps.specs.declared.view.View.{View}
@@ -35,7 +35,7 @@ IsFirstHand grid lane hand = IsOf grid hand
 
 -- these are the hands of all lanes of the grid, by rising number, before their first steps
 pub record AreFirstHands {T : Type 0} (grid : Grid T) (hands : List (Seat (Option (Share T)) View)) : Type 0 where
-  pub count : length hands ≡ grid.shape.lanes
+  pub count : length hands ≡ (callers grid.shape)
   pub each : (lane : ℕ) (hand : Seat (Option (Share T)) View) → slice_get hands lane ≡ Some hand → IsFirstHand grid lane hand
 
 -- these are hands of the grid, at least one

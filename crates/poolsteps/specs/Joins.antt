@@ -1,5 +1,6 @@
 -- What a closed pool has in its slots, and what is left of it when a cell was dropped.
 use Rattle.std.specs.Prelude.{◌≡◌, ◌≢◌, ◌⊎◌, ℕ, ◌<◌, List, Option, Some, None, slice_get, slice_set}
+use Rattle.keybits.specs.Shapes.{callers}
 use Rattle.core.specs.declared.slots.Slots.{Slots}
 use Rattle.core.specs.Mem.Slots.{slots_items, slots_len, slots_ptr, IsFull}
 use Rattle.keybits.specs.declared.shape.Shape.{Shape}
@@ -37,7 +38,7 @@ module _ {T : Type 0} where
   -- each lane's slot of the place has the lane's share of one cell
   pub record IsSpread (spots : ℕ → CellSpot) (z : Shape) (slots : List (Option (Share T))) (place : ℕ) : Type 0 where
     pub cell : ℕ
-    pub each : (lane : ℕ) → lane < z.lanes → HasPart slots (slot_index z place lane) (spots place) cell lane z.lanes
+    pub each : (lane : ℕ) → lane < (callers z) → HasPart slots (slot_index z place lane) (spots place) cell lane (callers z)
 
   -- the slot of the place's shard has the only share of a cell
   pub record IsResting (spots : ℕ → CellSpot) (z : Shape) (slots : List (Option (Share T))) (place : ℕ) : Type 0 where
@@ -52,7 +53,7 @@ module _ {T : Type 0} where
 
   -- each lane's slot of the place is empty
   abbrev pub IsUnspread : Shape → List (Option (Share T)) → ℕ → Type 0
-  IsUnspread z slots place = (lane : ℕ) → lane < z.lanes → slice_get slots (slot_index z place lane) ≡ Some None
+  IsUnspread z slots place = (lane : ℕ) → lane < (callers z) → slice_get slots (slot_index z place lane) ≡ Some None
 
   -- the slot of the place's shard is empty
   abbrev pub IsUnrested : Shape → List (Option (Share T)) → ℕ → Type 0
@@ -68,5 +69,5 @@ module _ {T : Type 0} where
   pub record Drains (z : Shape) (place : ℕ) (old new : Slots (Option (Share T))) : Type 0 where
     pub row : IsSlotRow z new
     pub start : slots_ptr new ≡ slots_ptr old
-    pub kept : (index : ℕ) → ((lane : ℕ) → lane < z.lanes → index ≢ slot_index z place lane)
+    pub kept : (index : ℕ) → ((lane : ℕ) → lane < (callers z) → index ≢ slot_index z place lane)
         → slice_get (slots_items new) index ≡ slice_get (slots_items old) index

@@ -9,7 +9,7 @@ use Rattle.keybits.specs.declared.shape.Shape.{Shape}
 use Rattle.keybits.specs.declared.step.Word.{Word}
 use Rattle.keybits.specs.declared.step.Word.TheVariants.{Life, Link, Stack}
 use Rattle.keybits.specs.Places.{shard_of}
-use Rattle.keybits.specs.Shapes.{page_size, shard_places, all_places, position_of, is_place}
+use Rattle.keybits.specs.Shapes.{callers, page_size, shard_places, all_places, position_of, is_place}
 use Rattle.poolsteps.specs.Share.{Share}
 use Rattle.poolsteps.specs.Shares.{Slots}
 use Rattle.steplaws.specs.Facts.{Words}
@@ -17,9 +17,9 @@ use Rattle.poolsteps.specs.declared.layout.PageRow.{PageRow}
 use Rattle.poolsteps.specs.declared.layout.TheConstants.{SHARDS_APART, SHARD_PAGES}
 use Rattle.poolsteps.specs.declared.find.TheConstants.{WORDS_APART, LIVES_START}
 
--- a word of the lane's own, which no step changes
+-- a word at which the caller looks, and which no step changes: a lane's own, and one that guests share with it
 abbrev pub look_word : ℕ → ℕ
-look_word lane = WORDS_APART * (1 + lane)
+look_word lane = WORDS_APART * (1 + lane % 64)
 
 -- where a place stands in each row of words or of slots
 abbrev pub slot_start : Shape → ℕ → ℕ
@@ -37,9 +37,29 @@ slot_row z = all_places z + SHARDS_APART * z.lanes
 abbrev pub links_start : Shape → ℕ
 links_start z = LIVES_START + slot_row z
 
+-- how many rows of bits a shard has room for
+abbrev pub row_count : Shape → ℕ
+row_count z = 64 * z.pages
+
+-- where the words of rows begin: behind those of stacks
+abbrev pub bits_start : Shape → ℕ
+bits_start z = LIVES_START + 2 * slot_row z + WORDS_APART * (z.lanes * z.lanes)
+
+-- where the word of a shard's row of bits stands
+abbrev pub bits_index : Shape → ℕ → ℕ → ℕ
+bits_index z shard row = bits_start z + (shard * row_count z + row)
+
+-- the pool has this row
+abbrev pub has_row : Shape → ℕ → ℕ → Bool
+has_row z shard row = nat_lt shard z.lanes && nat_lt row (row_count z)
+
+-- the value of a row's word; 0 where the pool has no such row
+abbrev pub bits_in : Shape → List ℕ → ℕ → ℕ → ℕ
+bits_in z words shard row = if has_row z shard row then slice_index words (bits_index z shard row) else 0
+
 -- how many words there are
 abbrev pub word_count : Shape → ℕ
-word_count z = LIVES_START + 2 * slot_row z + WORDS_APART * (z.lanes * z.lanes)
+word_count z = bits_start z + z.lanes * row_count z
 
 -- where a word of the pool stands
 abbrev pub index_in : Shape → Word → ℕ
@@ -63,6 +83,7 @@ words_in z words = record {
   life = λ place. value_in z words (Life place);
   link = λ place. value_in z words (Link place);
   stack = λ shard lane. value_in z words (Stack shard lane);
+  bits = bits_in z words;
 }
 
 -- how many pages the numbers of a pool's places have room for
@@ -86,7 +107,7 @@ spots_at directory z place = record { directory = directory; index = slot_start 
 
 -- how many slots there are
 abbrev pub slot_count : Shape → ℕ
-slot_count z = z.lanes * slot_row z
+slot_count z = callers z * slot_row z
 
 -- where the slot of a place and a lane stands
 abbrev pub slot_index : Shape → ℕ → ℕ → ℕ
@@ -94,4 +115,4 @@ slot_index z place lane = lane * slot_row z + slot_start z place
 
 -- the slots of the pool, in this row of slots
 abbrev pub slots_in : {T : Type 0} → Shape → List (maybe.Option (Option (Share T))) → Slots T
-slots_in z homes place lane = if is_place z place && nat_lt lane z.lanes then get_elem? homes (slot_index z place lane) else maybe.none
+slots_in z homes place lane = if is_place z place && nat_lt lane (callers z) then get_elem? homes (slot_index z place lane) else maybe.none

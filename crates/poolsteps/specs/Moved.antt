@@ -1,5 +1,6 @@
 -- What the moves of shares ask, and what they tell.
 use Rattle.poolsteps.specs.Spot.{Spot as CellSpot}
+use Rattle.keybits.specs.Shapes.{callers}
 use Rattle.std.specs.Prelude.{◌≡◌, ◌≢◌, ◌⊎◌, ℕ, ◌+◌, ◌<◌, List, [], ◌∷◌, Option, Some, None}
 use Rattle.atomic_table.specs.Table.{Me, rest}
 use Rattle.keybits.specs.declared.shape.Shape.{Shape}
@@ -26,7 +27,7 @@ moved_record r place number status c = record r { deeds = Left place number stat
 -- the lane may put a share of this cell in a slot: of the cell that it knows, or of a new one, where all shares are with it and no other slot of the place has any
 abbrev pub MayStore : Shape → View → ℕ → ℕ → Stored → Type 0
 MayStore z v place number c = (c ≡ known_of (the_lane v) place)
-    ⊎ (HasPlace z v place × ((k : ℕ) → k < z.lanes → k ≢ number → (status_of (the_lane v) place k ≡ Emptied)
+    ⊎ (HasPlace z v place × ((k : ℕ) → k < (callers z) → k ≢ number → (status_of (the_lane v) place k ≡ Emptied)
     ⊎ (status_of (the_lane v) place k ≡ InHand)))
 
 -- ---- what they tell: an object's content and room are as its type has them
@@ -39,7 +40,7 @@ module _ {T : Type 0} (content : T → List ℕ) (room : T → ℕ) where
 module _ {T : Type 0} (content : T → List ℕ) (room : T → ℕ) (spots : ℕ → CellSpot) where
   -- the share is that which a slot left so has: the lane's share, or the only one
   abbrev pub IsLeft : ℕ → Shape → ℕ → Stored → Status → Share T → Type 0
-  IsLeft place z number c Untouched share = IsShareOf content room spots place c number z.lanes share
+  IsLeft place z number c Untouched share = IsShareOf content room spots place c number (callers z) share
   IsLeft place z number c Emptied share = ⊥
   IsLeft place z number c InHand share = ⊥
   IsLeft place z number c Whole share = IsShareOf content room spots place c 0 1 share

@@ -6,7 +6,7 @@ use Rattle.keybits.specs.declared.place.TheConstants.{SHARD_NUMBERS}
 use Rattle.keybits.specs.declared.shape.Shape.{Shape}
 use Rattle.keybits.specs.declared.step.Kind.TheVariants as kinds
 use Rattle.keybits.specs.Places.{shard_of}
-use Rattle.keybits.specs.Shapes.{is_place}
+use Rattle.keybits.specs.Shapes.{callers, is_place}
 use Rattle.keybits.specs.Links.{link_to, linked_place}
 use Rattle.seqpool.specs.declared.act.Act.{Act}
 use Rattle.seqpool.specs.declared.act.Act.TheVariants as acts
@@ -22,7 +22,8 @@ use Rattle.poolsteps.specs.declared.view.Heard.{Heard}
 use Rattle.poolsteps.specs.declared.view.View.{View}
 use Rattle.poolsteps.specs.Views.{the_lane, pushed_in, status_of, known_of}
 use Rattle.poolsteps.specs.Seats.{HasHeard, SawLonger}
-use Rattle.poolsteps.specs.Told.{Steps, Sees, HasPlace}
+use Rattle.poolsteps.specs.Told.{Steps, RowSteps, Sees, HasPlace}
+use Rattle.keybits.specs.Rows.{set_places}
 
 -- ---- the record after each step
 
@@ -62,6 +63,18 @@ rest_of (place ∷ more) = more
 abbrev pub followed_record : LaneRecord → LaneRecord
 followed_record r = record r { chain = rest_of r.chain }
 
+-- after a guest's RETURN of this place
+abbrev pub given_record : LaneRecord → ℕ → LaneRecord
+given_record r place = record r { mine = r.mine ++ acts.Home r.lane place ∷ []; under = Nothing; deeds = Returned place ∷ r.deeds }
+
+-- after a GATHER of these places, with these cells
+abbrev pub gathered_record : LaneRecord → List ℕ → (ℕ → Stored) → LaneRecord
+gathered_record r places stored = record r {
+  mine = r.mine ++ acts.Collect r.lane places ∷ [];
+  deeds = Collected places ∷ r.deeds;
+  cells = with_cells stored places r.cells;
+}
+
 -- ---- what the steps ask
 
 -- the place that is to be returned
@@ -89,7 +102,7 @@ AimsAt r place top = ((failed_under r.under ≡ false) × (top ≡ pushed_in r.p
 
 -- by what the seat saw and knows, the place is at rest: whole, with empty content and at least its room
 pub record IsAtRest (z : Shape) (v : View) (place : ℕ) : Type 0 where
-  pub slots : (number : ℕ) → number < z.lanes → status_of (the_lane v) place number ≡ at_rest place number
+  pub slots : (number : ℕ) → number < (callers z) → status_of (the_lane v) place number ≡ at_rest place number
   pub empty : (known_of (the_lane v) place).content ≡ []
   pub room : room_of v.seen v.rooms place ≤ (known_of (the_lane v) place).room
 
@@ -101,7 +114,7 @@ LeadsTo z shard word (place ∷ more) = (0 < word) × (word ≤ SHARD_NUMBERS) �
 -- every home place of the shard was returned by another lane of the pool than this one
 abbrev pub NoneFrom : Shape → List Act → ℕ → ℕ → Type 0
 NoneFrom z seen shard lane = (place : ℕ) → home_in z seen shard place ≡ true
-    → (returner seen place < z.lanes) × (returner seen place ≢ shard) × (returner seen place ≢ lane)
+    → (returner seen place < (callers z)) × (returner seen place ≢ shard) × (returner seen place ≢ lane)
 
 -- ---- what the steps tell
 
@@ -133,6 +146,20 @@ module _ {S : Type 0} (z : Shape) where
   abbrev pub Follows : Me S View → ℕ → Me S View → Type 0
   Follows before found after = let r : LaneRecord = the_lane before.0 in
       LeadsTo z r.lane found (rest_of r.chain) × Steps z kinds.Follow found found before after None (followed_record r)
+
+  -- RETURN of the place that a guest has to return: it is home
+  abbrev pub GivesBit : Me S View → ℕ → Me S View → Type 0
+  GivesBit before found after = let r : LaneRecord = the_lane before.0 in let place : ℕ = place_under r.under in
+      RowSteps z before after (Some (acts.Home r.lane place)) (given_record r place)
+
+  -- GATHER of a row: the places whose bits were set are with the lane, at rest, and their cells are then known
+  abbrev pub Gathers : ℕ → Me S View → ℕ → Me S View → Type 0
+  Gathers row before found after = let r : LaneRecord = the_lane before.0 in let places : List ℕ = set_places r.lane row found in
+      (found ≡ 0 → RowSteps z before after None r)
+      × (found ≢ 0 → (stored : ℕ → Stored)
+      × ((place : ℕ) → has places place ≡ true → HasPlace z after.0 place × ((stored place).content ≡ [])
+      × (room_of after.0.seen after.0.rooms place ≤ (stored place).room))
+      × RowSteps z before after (Some (acts.Collect r.lane places)) (gathered_record r places stored))
 
   -- a look, after which the seat saw all that it was told, with the rooms beside it
   abbrev pub SeesTold : Me S View → Me S View → Type 0

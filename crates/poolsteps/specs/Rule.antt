@@ -1,5 +1,6 @@
 -- What holds of a table between any two steps.
 use Rattle.poolsteps.specs.Spot.{Spot as CellSpot}
+use Rattle.keybits.specs.Shapes.{callers}
 use Rattle.std.specs.Prelude.{◌≡◌, ℕ, ◌<◌, ◌≤◌, zero, suc, ◌+◌, List, [], ◌∷◌, length, Option}
 use Rattle.std.specs.List.{All}
 use mathlib.Core.Option as maybe
@@ -30,7 +31,7 @@ pub record World : Type 0 where
 
 -- what a lane's record says is so
 pub record IsRecord (z : Shape) (w : World) (r : LaneRecord) : Type 0 where
-  pub inside : r.lane < z.lanes
+  pub inside : r.lane < (callers z)
   -- of the lane's acts the history has just its own
   pub mine : r.mine ≡ acts_of r.lane w.history
   pub under : r.under ≡ w.lanes.under r.lane
@@ -81,4 +82,4 @@ first_records lane (suc more) = first_record lane ∷ first_records (lane + 1) m
 
 -- the view of the first seat: it has all lanes
 abbrev pub first_view : Shape → View
-first_view z = record { lanes = first_records 0 z.lanes; seen = []; rooms = []; told = []; steps = 0; looks = 0 }
+first_view z = record { lanes = first_records 0 (callers z); seen = []; rooms = []; told = []; steps = 0; looks = 0 }

@@ -3,7 +3,7 @@ use Rattle.poolsteps.specs.Spot.{Spot}
 use Rattle.std.specs.Prelude.{◌≡◌, ◌≢◌, ◌⊎◌, ℕ, ◌<◌, ◌≤◌, Bool, true, List, [], ◌∷◌, ◌++◌, length, Option, Some, None}
 use mathlib.Core.Option as maybe
 use Rattle.keybits.specs.declared.shape.Shape.{Shape}
-use Rattle.keybits.specs.Shapes.{IsShape, is_place}
+use Rattle.keybits.specs.Shapes.{callers, IsShape, is_place}
 use Rattle.keybits.specs.Keys.{place_of}
 use Rattle.seqpool.specs.declared.act.Act.{Act}
 use Rattle.seqpool.specs.declared.act.Act.TheVariants as acts
@@ -18,7 +18,7 @@ use Rattle.poolsteps.specs.Shares.{Slots, IsShareOf, at_home, IsEmpty, Stock, Sh
 -- at the start every slot of the pool is empty
 abbrev pub FirstShareLaw : {T : Type 0} → (T → List ℕ) → (T → ℕ) → (ℕ → Spot) → Type 0
 FirstShareLaw {T} content room spots = (z : Shape) (slots : Slots T) → IsShape z
-    → ((place lane : ℕ) → is_place z place ≡ true → lane < z.lanes → IsEmpty content room spots slots place lane)
+    → ((place lane : ℕ) → is_place z place ≡ true → lane < (callers z) → IsEmpty content room spots slots place lane)
     → Shared content room spots z [] [] slots first_stock
 
 -- a get or a clear, whatever its reply, or a release: where it is of the lane's last reference, the lane left its own slot alone
@@ -34,42 +34,42 @@ IsQuiet z history q (acts.Collect lane places) = ⊥
 
 abbrev pub ActsShareLaw : {T : Type 0} → (T → List ℕ) → (T → ℕ) → (ℕ → Spot) → Type 0
 ActsShareLaw {T} content room spots = (z : Shape) (history : List Act) (kept : List ℕ) (slots : Slots T) (q : Stock) (act : Act)
-    → length kept ≡ length history → IsLegal z history → Shared content room spots z history kept slots q → lane_of act < z.lanes
+    → length kept ≡ length history → IsLegal z history → Shared content room spots z history kept slots q → lane_of act < (callers z)
     → Allowed z (pool_after z history) act → IsQuiet z history q act
     → Shared content room spots z (history ++ act ∷ []) (kept ++ 0 ∷ []) slots q
 
 -- the cell is the one of the place, or a new one, of which the lane has every share in its hands
 abbrev pub MayRestock : Shape → Stock → ℕ → ℕ → Stored → Type 0
 MayRestock z q lane place c = (c ≡ q.stored place)
-    ⊎ ((number : ℕ) → number < z.lanes → (q.status lane place number ≡ Emptied) ⊎ (q.status lane place number ≡ InHand))
+    ⊎ ((number : ℕ) → number < (callers z) → (q.status lane place number ≡ Emptied) ⊎ (q.status lane place number ≡ InHand))
 
 -- a publish of the cell's content: every slot of the place but perhaps the lane's own, where the lane gets a reference, is untouched
 abbrev pub PublishShareLaw : {T : Type 0} → (T → List ℕ) → (T → ℕ) → (ℕ → Spot) → Type 0
 PublishShareLaw {T} content room spots = (z : Shape) (history : List Act) (kept : List ℕ) (slots : Slots T) (q : Stock) (lane key : ℕ)
     (c : Stored) (with_ref : Bool)
-    → length kept ≡ length history → IsLegal z history → Shared content room spots z history kept slots q → lane < z.lanes
+    → length kept ≡ length history → IsLegal z history → Shared content room spots z history kept slots q → lane < (callers z)
     → Allowed z (pool_after z history) (acts.Publish lane key c.content with_ref)
     → MayRestock z q lane (place_of key) c
-    → ((number : ℕ) → number < z.lanes → q.status lane (place_of key) number ≢ Untouched → (number ≡ lane) × (with_ref ≡ true))
+    → ((number : ℕ) → number < (callers z) → q.status lane (place_of key) number ≢ Untouched → (number ≡ lane) × (with_ref ≡ true))
     → Shared content room spots z (history ++ acts.Publish lane key c.content with_ref ∷ []) (kept ++ c.room
     ∷ []) slots (restocked q lane (place_of key) c)
 
 -- a reclaim: the lane knows the cell of its place, whose room is the place's
 abbrev pub ReclaimShareLaw : {T : Type 0} → (T → List ℕ) → (T → ℕ) → (ℕ → Spot) → Type 0
 ReclaimShareLaw {T} content room spots = (z : Shape) (history : List Act) (kept : List ℕ) (slots : Slots T) (q : Stock) (lane key : ℕ)
-    → length kept ≡ length history → IsLegal z history → Shared content room spots z history kept slots q → lane < z.lanes
+    → length kept ≡ length history → IsLegal z history → Shared content room spots z history kept slots q → lane < (callers z)
     → Allowed z (pool_after z history) (acts.Reclaim lane key)
     → ((q.stored (place_of key)).room ≡ room_of history kept (place_of key))
-    × ((number : ℕ) → number < z.lanes → (l : ℕ) → l < z.lanes → q.status l (place_of key) number ≡ Untouched)
+    × ((number : ℕ) → number < (callers z) → (l : ℕ) → l < (callers z) → q.status l (place_of key) number ≡ Untouched)
     × Shared content room spots z (history ++ acts.Reclaim lane key ∷ []) (kept ++ 0
     ∷ []) slots (restocked q lane (place_of key) (q.stored (place_of key)))
 
 -- a place is returned at rest, its cell empty and with at least the place's room
 abbrev pub HomeShareLaw : {T : Type 0} → (T → List ℕ) → (T → ℕ) → (ℕ → Spot) → Type 0
 HomeShareLaw {T} content room spots = (z : Shape) (history : List Act) (kept : List ℕ) (slots : Slots T) (q : Stock) (lane place : ℕ)
-    → length kept ≡ length history → Shared content room spots z history kept slots q → lane < z.lanes
+    → length kept ≡ length history → Shared content room spots z history kept slots q → lane < (callers z)
     → Allowed z (pool_after z history) (acts.Home lane place)
-    → ((number : ℕ) → number < z.lanes → q.status lane place number ≡ at_rest place number)
+    → ((number : ℕ) → number < (callers z) → q.status lane place number ≡ at_rest place number)
     → ((q.stored place).content ≡ []) → (room_of history kept place ≤ (q.stored place).room)
     → Shared content room spots z (history ++ acts.Home lane place ∷ []) (kept ++ 0 ∷ []) slots (after_home q lane place)
 
@@ -77,7 +77,7 @@ HomeShareLaw {T} content room spots = (z : Shape) (history : List Act) (kept : L
 abbrev pub CollectShareLaw : {T : Type 0} → (T → List ℕ) → (T → ℕ) → (ℕ → Spot) → Type 0
 CollectShareLaw {T} content room spots = (z : Shape) (history : List Act) (kept : List ℕ) (slots : Slots T) (q : Stock) (lane : ℕ)
     (places : List ℕ)
-    → length kept ≡ length history → Shared content room spots z history kept slots q → lane < z.lanes
+    → length kept ≡ length history → Shared content room spots z history kept slots q → lane < (callers z)
     → Allowed z (pool_after z history) (acts.Collect lane places)
     → ((place : ℕ) → has places place ≡ true → ((q.stored place).content ≡ []) × (room_of history kept place ≤ (q.stored place).room))
     × Shared content room spots z (history ++ acts.Collect lane places ∷ []) (kept ++ 0 ∷ []) slots (after_collect q lane places)
@@ -86,7 +86,7 @@ CollectShareLaw {T} content room spots = (z : Shape) (history : List Act) (kept 
 abbrev pub Leaves : {T : Type 0} (content : T → List ℕ) (room : T → ℕ) (spots : ℕ → Spot) → ℕ → Shape → ℕ → Stored → Status
     → maybe.Option (maybe.Option (Option (Share T))) → Type 0
 Leaves {T} content room spots place z number c Untouched value = (share : Share T) × (value ≡ at_home (Some share))
-    × IsShareOf content room spots place c number z.lanes share
+    × IsShareOf content room spots place c number (callers z) share
 Leaves content room spots place z number c Emptied value = value ≡ at_home None
 Leaves content room spots place z number c InHand value = Unit {0}
 Leaves {T} content room spots place z number c Whole value = (share : Share T) × (value ≡ at_home (Some share))
@@ -96,14 +96,14 @@ Leaves {T} content room spots place z number c Whole value = (share : Share T) �
 abbrev pub MayMove : Shape → List Act → Stock → ℕ → ℕ → ℕ → Stored → Type 0
 MayMove z history q lane place number c = (c ≡ q.stored place)
     ⊎ (HasAll (reclaimer history place) lane (pool_after z history place).phase
-    × ((k : ℕ) → k < z.lanes → k ≢ number → (q.status lane place k ≡ Emptied) ⊎ (q.status lane place k ≡ InHand)))
+    × ((k : ℕ) → k < (callers z) → k ≢ number → (q.status lane place k ≡ Emptied) ⊎ (q.status lane place k ≡ InHand)))
 
 -- a lane that may have a share moves it
 abbrev pub MoveLaw : {T : Type 0} → (T → List ℕ) → (T → ℕ) → (ℕ → Spot) → Type 0
 MoveLaw {T} content room spots = (z : Shape) (history : List Act) (kept : List ℕ) (slots : Slots T) (q : Stock) (lane place number : ℕ)
     (status : Status) (c : Stored)
     (value : maybe.Option (maybe.Option (Option (Share T))))
-    → Shared content room spots z history kept slots q → lane < z.lanes → number < z.lanes
+    → Shared content room spots z history kept slots q → lane < (callers z) → number < (callers z)
     → MayHave (reclaimer history place) lane number (pool_after z history place).phase
     → MayMove z history q lane place number c → Leaves content room spots place z number c status value
     → Shared content room spots z history kept (with_slot slots place number value) (moved q lane place number status c)

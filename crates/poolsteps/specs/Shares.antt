@@ -4,7 +4,7 @@ use Rattle.std.specs.Prelude.{◌≡◌, ◌≢◌, ◌==◌, ◌&&◌, ℕ, ◌
 use mathlib.Core.Option as maybe
 use Rattle.keybits.specs.declared.shape.Shape.{Shape}
 use Rattle.keybits.specs.Places.{shard_of}
-use Rattle.keybits.specs.Shapes.{is_place}
+use Rattle.keybits.specs.Shapes.{callers, is_place}
 use Rattle.keybits.specs.Keys.{place_of}
 use Rattle.seqpool.specs.declared.act.Act.{Act}
 use Rattle.seqpool.specs.declared.act.Act.TheVariants as acts
@@ -122,23 +122,23 @@ module _ {T : Type 0} (content : T → List ℕ) (room : T → ℕ) (spots : ℕ
   -- a slot that no lane touched: of a home place the whole cell is in the slot of its shard's lane; of every other place each lane's share is in its slot
   abbrev pub StandsAs : Shape → Slots T → ℕ → ℕ → Stored → Bool → Type 0
   StandsAs z slots place lane c true = RestsAs slots place lane c (lane == shard_of place)
-  StandsAs z slots place lane c false = HasShare slots place lane c lane z.lanes
+  StandsAs z slots place lane c false = HasShare slots place lane c lane (callers z)
 
   -- Share
   pub record Shared (z : Shape) (history : List Act) (kept : List ℕ) (slots : Slots T) (q : Stock) : Type 0 where
     -- what stands in the slots
-    pub untouched : (place lane : ℕ) → is_place z place ≡ true → lane < z.lanes
-        → ((l : ℕ) → l < z.lanes → q.status l place lane ≡ Untouched)
+    pub untouched : (place lane : ℕ) → is_place z place ≡ true → lane < (callers z)
+        → ((l : ℕ) → l < (callers z) → q.status l place lane ≡ Untouched)
         → StandsAs z slots place lane (q.stored place) (is_home (pool_after z history place).phase)
-    pub emptied : (l place lane : ℕ) → l < z.lanes → is_place z place ≡ true → lane < z.lanes → q.status l place lane ≡ Emptied
+    pub emptied : (l place lane : ℕ) → l < (callers z) → is_place z place ≡ true → lane < (callers z) → q.status l place lane ≡ Emptied
         → IsEmpty slots place lane
-    pub whole : (l place lane : ℕ) → l < z.lanes → is_place z place ≡ true → lane < z.lanes → q.status l place lane ≡ Whole
+    pub whole : (l place lane : ℕ) → l < (callers z) → is_place z place ≡ true → lane < (callers z) → q.status l place lane ≡ Whole
         → HasShare slots place lane (q.stored place) 0 1
     -- only a lane that may have a share touches its slot, and it knows the cell
-    pub touched : (l place lane : ℕ) → l < z.lanes → lane < z.lanes → q.status l place lane ≢ Untouched
+    pub touched : (l place lane : ℕ) → l < (callers z) → lane < (callers z) → q.status l place lane ≢ Untouched
         → MayHave (reclaimer history place) l lane (pool_after z history place).phase × (q.knows l place ≡ q.stored place)
     -- a lane that has all shares knows the cell
-    pub owned : (l place : ℕ) → l < z.lanes → HasAll (reclaimer history place) l (pool_after z history place).phase
+    pub owned : (l place : ℕ) → l < (callers z) → HasAll (reclaimer history place) l (pool_after z history place).phase
         → q.knows l place ≡ q.stored place
     -- the cell has the content and the room of its key, or rests empty with at least its room
     pub contents : (place : ℕ) → IsKept (q.stored place) (room_of history kept place) (pool_after z history place).phase

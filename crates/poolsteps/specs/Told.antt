@@ -5,7 +5,7 @@ use Rattle.keybits.specs.declared.shape.Shape.{Shape}
 use Rattle.keybits.specs.declared.step.Kind.{Kind}
 use Rattle.keybits.specs.declared.step.Kind.TheVariants as kinds
 use Rattle.keybits.specs.Places.{shard_of}
-use Rattle.keybits.specs.Shapes.{is_place}
+use Rattle.keybits.specs.Shapes.{callers, is_place}
 use Rattle.keybits.specs.Keys.{place_of, key_number}
 use Rattle.keybits.specs.Counts.{times}
 use Rattle.keybits.specs.Words.{state_in, generation_in, claimable}
@@ -30,7 +30,7 @@ use Rattle.poolsteps.specs.Views.{the_lane, status_of, known_of, acts_in, rooms_
 
 -- a pool's only lane, which has nothing under way, has a reference to each marked key
 abbrev pub Quiet : Shape → View → Type 0
-Quiet z v = z.lanes ≡ 1 → (the_lane v).under ≡ Nothing → (place : ℕ) → is_place z place ≡ true
+Quiet z v = (callers z) ≡ 1 → (the_lane v).under ≡ Nothing → (place : ℕ) → is_place z place ≡ true
     → is_marked (pool_after z v.seen place).phase ≡ true
     → 0 < references_in (pool_after z v.seen place).phase (the_lane v).lane
 
@@ -53,6 +53,13 @@ pub record Steps {S : Type 0} (z : Shape) (kind : Kind) (found left : ℕ) (befo
     Type 0 where
   -- the step relation
   pub changes : Changes z.last_generation kind found left
+  pub goes : GoesOn z before.0 after.0 (acts_in act) (rooms_in r act) r
+  pub held : after.1 ≡ before.1
+  pub steps : after.0.steps ≡ before.0.steps + 1
+  pub looks : after.0.looks ≡ before.0.looks
+
+-- the seat made one step on the word of a row, with this act or none
+pub record RowSteps {S : Type 0} (z : Shape) (before after : Me S View) (act : Option Act) (r : LaneRecord) : Type 0 where
   pub goes : GoesOn z before.0 after.0 (acts_in act) (rooms_in r act) r
   pub held : after.1 ≡ before.1
   pub steps : after.0.steps ≡ before.0.steps + 1
@@ -106,7 +113,7 @@ WasPublished seen key content = (j : ℕ) × PublishedAt seen j key content
 
 -- the lane left each slot of the place alone
 abbrev pub LeftAlone : Shape → LaneRecord → ℕ → Type 0
-LeftAlone z r place = (number : ℕ) → number < z.lanes → status_of r place number ≡ Untouched
+LeftAlone z r place = (number : ℕ) → number < (callers z) → status_of r place number ≡ Untouched
 
 module _ {S : Type 0} (z : Shape) where
   -- a step of a lifecycle word by the seat's lane, after which it has this under way
@@ -191,11 +198,12 @@ MayLeave z v key = (IsIdle v × (0 < references_seen z v key)
 -- a lane that has all shares of a place may have this cell there: the one that it knows, or a new one, where it has every share in its hands
 abbrev pub MayRenew : Shape → View → ℕ → Stored → Type 0
 MayRenew z v place c = (c ≡ known_of (the_lane v) place)
-    ⊎ ((number : ℕ) → number < z.lanes → (status_of (the_lane v) place number ≡ Emptied) ⊎ (status_of (the_lane v) place number ≡ InHand))
+    ⊎ ((number : ℕ) → number < callers z
+    → (status_of (the_lane v) place number ≡ Emptied) ⊎ (status_of (the_lane v) place number ≡ InHand))
 
 -- each slot of the place is left alone, but perhaps the lane's own where it gets a reference
 abbrev pub IsShared : Shape → View → ℕ → Bool → Type 0
-IsShared z v place with_ref = (number : ℕ) → number < z.lanes → status_of (the_lane v) place number ≢ Untouched
+IsShared z v place with_ref = (number : ℕ) → number < (callers z) → status_of (the_lane v) place number ≢ Untouched
     → (number ≡ (the_lane v).lane) × (with_ref ≡ true)
 
 -- the key is one that the lane may publish: its place is of the lane's shard and with the lane, at this generation, and is not on its taken chain

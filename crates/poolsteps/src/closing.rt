@@ -74,7 +74,7 @@ fn out_spread<T: Drop>(
     ensures gone { IsUnspread shape.now (slots_items slots.new) place }
 {
     let _ = directory;
-    let last = shape.lanes - 1;
+    let last = shape.lanes + shape.guests - 1;
     let mut rest = Rest::of_last(lift(slot_at(shape, place, position, last), slots));
     let mut number = last;
     while number > 0 {

@@ -3,7 +3,7 @@ ghost use Rattle.std.specs.Prelude.{◌≡◌, ◌/◌, ◌↔◌, true, IfSome,
 ghost use Rattle.keybits.specs.declared.step.Word.TheVariants as words;
 ghost use Rattle.poolsteps.specs.Layout.{page_row, index_in, look_word, slot_index};
 ghost use Rattle.keybits.specs.declared.place.TheConstants.{PAGE_NUMBERS};
-ghost use Rattle.keybits.specs.Shapes.{is_place};
+ghost use Rattle.keybits.specs.Shapes.{callers, is_place};
 ghost use Rattle.keybits.specs.Keys.{is_key, place_of};
 ghost use Rattle.poolsteps.specs.Grids.{IsSpot};
 
@@ -20,10 +20,9 @@ pub(crate) const LIVES_START: usize = WORDS_APART * (1 + MOST_LANES as usize);
 
 /// Where the word stands that a lane looks at.
 pub(crate) fn look_word(lane: u32) -> usize
-    requires { lane < 4294967295 }
     ensures { result ≡ look_word lane }
 {
-    WORDS_APART * (1 + lane as usize)
+    WORDS_APART * (1 + (lane % MOST_LANES) as usize)
 }
 
 impl<T: Clear> Grid<T> {
@@ -98,7 +97,7 @@ impl<T: Clear> Grid<T> {
     #[inline]
     pub(crate) fn slot_of(&self, spot: Spot, number: u32) -> usize
         requires spot { IsSpot self.now.shape spot spot.place }
-        requires number { number < self.now.shape.lanes }
+        requires number { number < callers self.now.shape }
         ensures { result ≡ slot_index self.now.shape spot.place number }
     {
         self.slot_in(self.row, spot, number)
@@ -109,7 +108,7 @@ impl<T: Clear> Grid<T> {
     pub(crate) fn slot_in(&self, row: usize, spot: Spot, number: u32) -> usize
         requires row { row ≡ self.now.row }
         requires spot { IsSpot self.now.shape spot spot.place }
-        requires number { number < self.now.shape.lanes }
+        requires number { number < callers self.now.shape }
         ensures { result ≡ slot_index self.now.shape spot.place number }
     {
         number as usize * row + spot.start as usize

@@ -3,12 +3,12 @@
 //! neighbouring shards farther. No step changes the first words: the very first is read where seats are cut and joined,
 //! and behind it each lane has one that it looks at.
 ghost use Rattle.std.specs.Prelude.{◌≡◌, ◌+◌, ◌<◌, ℕ, true, None, Option, length, slice_get, Some, IfSome};
-ghost use Rattle.keybits.specs.Shapes.{IsShape, position_of, is_place};
+ghost use Rattle.keybits.specs.Shapes.{callers, IsShape, position_of, is_place};
 ghost use Rattle.keybits.specs.Places.{shard_of};
 ghost use Rattle.keybits.specs.declared.step.Word.TheVariants as words;
 ghost use Rattle.poolsteps.specs.Share.{Share};
 ghost use Rattle.poolsteps.specs.declared.find.TheConstants.{LIVES_START};
-ghost use Rattle.poolsteps.specs.Layout.{index_in, links_start, word_count, words_in, page_count, page_row, page_rows, slot_start, slot_row, slot_count, slot_index, shard_start};
+ghost use Rattle.poolsteps.specs.Layout.{index_in, links_start, word_count, row_count, bits_index, words_in, page_count, page_row, page_rows, slot_start, slot_row, slot_count, slot_index, shard_start};
 ghost use Rattle.steplaws.specs.MomentLaws.{AreFirst};
 
 use crate::cells::Slot;
@@ -30,7 +30,27 @@ pub(crate) fn word_count(shape: &Shape) -> usize
     ensures { result ≡ word_count shape.now }
 {
     let lanes = shape.lanes as usize;
-    LIVES_START + 2 * slot_row(shape) + WORDS_APART * (lanes * lanes)
+    LIVES_START + 2 * slot_row(shape) + WORDS_APART * (lanes * lanes) + lanes * row_count(shape)
+}
+
+/// How many rows of bits a shard has room for.
+pub(crate) fn row_count(shape: &Shape) -> usize
+    requires { IsShape shape.now }
+    ensures { result ≡ row_count shape.now }
+{
+    64 * shape.pages as usize
+}
+
+/// Where the word of a shard's row of bits stands.
+pub fn bits_word(shape: &Shape, shard: u32, row: u32) -> usize
+    requires shape { IsShape shape.now }
+    requires row { (shard < shape.now.lanes) × (row < row_count shape.now) }
+    ensures word { result ≡ bits_index shape.now shard row }
+    ensures inside { result < word_count shape.now }
+{
+    let lanes = shape.lanes as usize;
+    let rows = shard as usize * row_count(shape) + row as usize;
+    LIVES_START + 2 * slot_row(shape) + WORDS_APART * (lanes * lanes) + rows
 }
 
 /// Where a place stands in each row of words, of slots or of what a lane has of each place; the place has this position
@@ -120,7 +140,7 @@ pub fn slot_at(shape: &Shape, place: u32, position: usize, lane: u32) -> usize
     requires shape { IsShape shape.now }
     requires place { is_place shape.now place ≡ true }
     requires position { position ≡ position_of shape.now place }
-    requires lane { lane < shape.now.lanes }
+    requires lane { lane < callers shape.now }
     ensures slot { result ≡ slot_index shape.now place lane }
     ensures inside { result < slot_count shape.now }
 {
@@ -193,7 +213,7 @@ pub(crate) fn first_slots<T>(alloc: Global, shape: &Shape) -> Option<Vec<Slot<T>
     ensures count { IfSome result (λ slots. length slots.items ≡ slot_count shape.now) }
     ensures empty { IfSome result (λ slots. (index : ℕ) (slot : Option (Share T)) → slice_get slots.items index ≡ Some slot → slot ≡ None) }
 {
-    let count = shape.lanes as usize * slot_row(shape);
+    let count = shape.callers() as usize * slot_row(shape);
     let mut slots = Vec::with_capacity(alloc, count).ok()?;
     for _ in 0..count {
         slots.push_reserved(Slot::empty());

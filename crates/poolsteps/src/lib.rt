@@ -4,6 +4,7 @@
 #![tactic(auto)]
 
 mod at_once;
+mod bits;
 mod cells;
 mod closing;
 mod directory;
@@ -31,8 +32,8 @@ pub use directory_end::close_directory;
 pub use grid::{Board, Grid, Hand, PoolRule, Spot};
 pub use laws::{acts_law, references_law, shares_law};
 pub use layout::{
-    SHARDS_APART, life_at, life_word, link_word, shard_start, slot_at, slot_row, slot_start,
-    stack_word,
+    SHARDS_APART, bits_word, life_at, life_word, link_word, shard_start, slot_at, slot_row,
+    slot_start, stack_word,
 };
 pub use objects::Objects;
 pub use rows::BYTES_APART;

@@ -1,5 +1,6 @@
 //! The moves of shares: each is two looks at a word of the lane's own, one that takes slots and one that
 //! gives them back. One moves a share, or all shares of a place.
+ghost use Rattle.keybits.specs.Shapes.{callers};
 ghost use Rattle.std.specs.Prelude.{◌≡◌, ◌≢◌, ◌⊎◌, ◌<◌, ◌∷◌, Option, ◌-◌, ℕ, [], ◌++◌, Some, None, IfSome};
 ghost use Rattle.atomic_table.specs.Table.{rest};
 ghost use Rattle.poolsteps.specs.Share.{Share as Shown};
@@ -49,7 +50,7 @@ impl Move for Brand {
     ghost use Rattle.poolsteps.specs.Shares.{nothing_stored};
     ghost use denote.RawPtr.{null_ptr};
 
-    ghost shape = { record { lanes = 1; first_page = 1; pages = 1; last_generation = 1; tag = 0 } };
+    ghost shape = { record { lanes = 1; first_page = 1; pages = 1; last_generation = 1; tag = 0; guests = 0 } };
 
     ghost directory = { null_ptr };
 
@@ -88,7 +89,7 @@ impl MoveAll for Brand {
     ghost use Rattle.poolsteps.specs.Shares.{nothing_stored};
     ghost use denote.RawPtr.{null_ptr};
 
-    ghost shape = { record { lanes = 1; first_page = 1; pages = 1; last_generation = 1; tag = 0 } };
+    ghost shape = { record { lanes = 1; first_page = 1; pages = 1; last_generation = 1; tag = 0; guests = 0 } };
 
     ghost directory = { null_ptr };
 
@@ -160,7 +161,7 @@ impl<T: Clear> Grid<T> {
     pub fn out(&self, hand: &mut Hand<T>, spot: Spot, lane: u32, number: u32) -> Share<T>
         requires hand { IsOf self.now hand.old × IsOne hand.old.me.0 }
         requires spot { IsSpot self.now.shape spot spot.place }
-        requires lanes { (lane < self.now.shape.lanes) × (number < self.now.shape.lanes) }
+        requires lanes { (lane < callers self.now.shape) × (number < callers self.now.shape) }
         requires may { MayTouch self.now.shape hand.old.me.0 spot.place number }
         requires left { status_of (the_lane hand.old.me.0) spot.place number ≡ Untouched }
         ensures hand { SameSeat hand.old hand.new }
@@ -175,7 +176,7 @@ impl<T: Clear> Grid<T> {
     pub fn out_whole(&self, hand: &mut Hand<T>, spot: Spot, lane: u32) -> Share<T>
         requires hand { IsOf self.now hand.old × IsOne hand.old.me.0 }
         requires spot { IsSpot self.now.shape spot spot.place }
-        requires lane { lane < self.now.shape.lanes }
+        requires lane { lane < callers self.now.shape }
         requires may { MayTouch self.now.shape hand.old.me.0 spot.place (shard_number spot.place) }
         requires left { status_of (the_lane hand.old.me.0) spot.place (shard_number spot.place) ≡ Whole }
         ensures hand { SameSeat hand.old hand.new }
@@ -190,7 +191,7 @@ impl<T: Clear> Grid<T> {
         requires aim { (J.status ≢ InHand) × (J.status ≢ Emptied) }
         requires hand { IsOf self.now hand.old × IsOne hand.old.me.0 }
         requires spot { IsSpot self.now.shape spot spot.place }
-        requires lanes { (lane < self.now.shape.lanes) × (number < self.now.shape.lanes) }
+        requires lanes { (lane < callers self.now.shape) × (number < callers self.now.shape) }
         requires may { MayTouch self.now.shape hand.old.me.0 spot.place number }
         requires left { status_of (the_lane hand.old.me.0) spot.place number ≡ J.status }
         ensures hand { SameSeat hand.old hand.new }
@@ -221,7 +222,7 @@ impl<T: Clear> Grid<T> {
     ) -> Slot<T>
         requires hand { IsOf self.now hand.old × IsOne hand.old.me.0 }
         requires spot { IsSpot self.now.shape spot spot.place }
-        requires lanes { (lane < self.now.shape.lanes) × (number < self.now.shape.lanes) }
+        requires lanes { (lane < callers self.now.shape) × (number < callers self.now.shape) }
         requires may { MayTouch self.now.shape hand.old.me.0 spot.place number }
         requires left { (status_of (the_lane hand.old.me.0) spot.place number ≡ Untouched)
             ⊎ (status_of (the_lane hand.old.me.0) spot.place number ≡ Emptied) }
@@ -243,10 +244,10 @@ impl<T: Clear> Grid<T> {
     pub fn settle(&self, hand: &mut Hand<T>, spot: Spot, lane: u32, number: u32, given: Slot<T>)
         requires hand { IsOf self.now hand.old × IsOne hand.old.me.0 }
         requires spot { IsSpot self.now.shape spot spot.place }
-        requires lanes { (lane < self.now.shape.lanes) × (number < self.now.shape.lanes) }
+        requires lanes { (lane < callers self.now.shape) × (number < callers self.now.shape) }
         requires may { MayTouch self.now.shape hand.old.me.0 spot.place number }
         requires left { status_of (the_lane hand.old.me.0) spot.place number ≡ Emptied }
-        requires share { IfSome given (λ share. (share.number ≡ number) × (share.of ≡ self.now.shape.lanes)
+        requires share { IfSome given (λ share. (share.number ≡ number) × (share.of ≡ callers self.now.shape)
             × (share.spot ≡ spots_at self.now.objects.ptr self.now.shape spot.place)) }
         requires cell { IfSome given (λ share. MayStore self.now.shape hand.old.me.0 spot.place number (stored_of T.content T.room share)) }
         ensures hand { SameSeat hand.old hand.new }
@@ -264,7 +265,7 @@ impl<T: Clear> Grid<T> {
     pub fn back_whole(&self, hand: &mut Hand<T>, spot: Spot, lane: u32, share: Share<T>)
         requires hand { IsOf self.now hand.old × IsOne hand.old.me.0 }
         requires spot { IsSpot self.now.shape spot spot.place }
-        requires lane { lane < self.now.shape.lanes }
+        requires lane { lane < callers self.now.shape }
         requires may { MayTouch self.now.shape hand.old.me.0 spot.place (shard_number spot.place) }
         requires left { status_of (the_lane hand.old.me.0) spot.place (shard_number spot.place) ≡ Emptied }
         requires share { (share.number ≡ 0) × (share.of ≡ 1) × (share.spot ≡ spots_at self.now.objects.ptr self.now.shape spot.place) }
@@ -287,7 +288,7 @@ impl<T: Clear> Grid<T> {
     )
         requires hand { IsOf self.now hand.old × IsOne hand.old.me.0 }
         requires spot { IsSpot self.now.shape spot spot.place }
-        requires lanes { (lane < self.now.shape.lanes) × (number < self.now.shape.lanes) }
+        requires lanes { (lane < callers self.now.shape) × (number < callers self.now.shape) }
         requires may { MayTouch self.now.shape hand.old.me.0 spot.place number }
         requires left { status_of (the_lane hand.old.me.0) spot.place number ≡ Emptied }
         requires share { IsLeft T.content T.room (spots_at self.now.objects.ptr self.now.shape) spot.place self.now.shape number
@@ -310,7 +311,7 @@ impl<T: Clear> Grid<T> {
             × (J.status ≢ InHand) }
         requires hand { IsOf self.now hand.old × IsOne hand.old.me.0 }
         requires spot { IsSpot self.now.shape spot spot.place }
-        requires lanes { (lane < self.now.shape.lanes) × (number < self.now.shape.lanes) }
+        requires lanes { (lane < callers self.now.shape) × (number < callers self.now.shape) }
         requires may { MayTouch self.now.shape hand.old.me.0 spot.place number }
         requires left { status_of (the_lane hand.old.me.0) spot.place number ≡ J.status }
         ensures hand { SameSeat hand.old hand.new }
@@ -327,7 +328,7 @@ impl<T: Clear> Grid<T> {
         requires aim { (J.shape ≡ self.now.shape) × (J.directory ≡ self.now.objects.ptr) × (J.place ≡ spot.place) × (J.number ≡ number) }
         requires hand { IsOf self.now hand.old × IsOne hand.old.me.0 }
         requires spot { IsSpot self.now.shape spot spot.place }
-        requires lanes { (lane < self.now.shape.lanes) × (number < self.now.shape.lanes) }
+        requires lanes { (lane < callers self.now.shape) × (number < callers self.now.shape) }
         requires may { MayTouch self.now.shape hand.old.me.0 spot.place number }
         requires left { status_of (the_lane hand.old.me.0) spot.place number ≡ InHand }
         requires value { (value : Option (Shown T))
@@ -350,9 +351,9 @@ impl<T: Clear> Grid<T> {
             × IsOrder self.now.shape J.order × (J.status ≢ InHand) }
         requires hand { IsOf self.now hand.old × IsOne hand.old.me.0 × (hand.old.me.1 ≡ []) }
         requires spot { IsSpot self.now.shape spot spot.place }
-        requires lane { lane < self.now.shape.lanes }
+        requires lane { lane < callers self.now.shape }
         requires place { HasPlace self.now.shape hand.old.me.0 spot.place }
-        requires left { (number : ℕ) → number < self.now.shape.lanes → status_of (the_lane hand.old.me.0) spot.place number ≡ J.status }
+        requires left { (number : ℕ) → number < callers self.now.shape → status_of (the_lane hand.old.me.0) spot.place number ≡ J.status }
         ensures hand { SameSeat hand.old hand.new }
         ensures lifts { LiftsAll T.content T.room (spots_at self.now.objects.ptr self.now.shape) self.now.shape spot.place J.order
             J.status hand.old.me hand.new.me }
@@ -370,12 +371,12 @@ impl<T: Clear> Grid<T> {
             × IsOrder self.now.shape J.order }
         requires hand { IsOf self.now hand.old × IsOne hand.old.me.0 }
         requires spot { IsSpot self.now.shape spot spot.place }
-        requires lane { lane < self.now.shape.lanes }
+        requires lane { lane < callers self.now.shape }
         requires place { HasPlace self.now.shape hand.old.me.0 spot.place }
-        requires left { (number : ℕ) → number < self.now.shape.lanes → status_of (the_lane hand.old.me.0) spot.place number ≡ InHand }
+        requires left { (number : ℕ) → number < callers self.now.shape → status_of (the_lane hand.old.me.0) spot.place number ≡ InHand }
         requires values { (values : ℕ → Option (Shown T))
             × AreLeft T.content T.room (spots_at self.now.objects.ptr self.now.shape) spot.place self.now.shape J.status J.stored values
-            × (hand.old.me.1 ≡ held_of self.now.shape spot.place J.order values self.now.shape.lanes) }
+            × (hand.old.me.1 ≡ held_of self.now.shape spot.place J.order values (callers self.now.shape)) }
         ensures hand { SameSeat hand.old hand.new }
         ensures lays { LaysAll T.content T.room (spots_at self.now.objects.ptr self.now.shape) self.now.shape spot.place J.status J.stored
             hand.old.me hand.new.me }
@@ -393,7 +394,7 @@ impl<T: Clear> Grid<T> {
         requires hand { IsOf self.now hand.old }
         requires spot { IsSpot self.now.shape spot spot.place }
         requires row { row ≡ self.now.row }
-        requires number { number < self.now.shape.lanes }
+        requires number { number < callers self.now.shape }
         requires held { (share : Shown T)
             × (hand.old.me.1 ≡ (slot_index self.now.shape spot.place number, Some share) ∷ rest hand.old.me.1) }
         ensures hand { SameSeat hand.old hand.new }
@@ -416,7 +417,7 @@ impl<T: Clear> Grid<T> {
         requires hand { IsOf self.now hand.old }
         requires spot { IsSpot self.now.shape spot spot.place }
         requires row { row ≡ self.now.row }
-        requires number { number < self.now.shape.lanes }
+        requires number { number < callers self.now.shape }
         requires held { (value : Option (Shown T))
             × (hand.old.me.1 ≡ (slot_index self.now.shape spot.place number, value) ∷ rest hand.old.me.1) }
         ensures hand { SameSeat hand.old hand.new }
@@ -434,17 +435,17 @@ impl<T: Clear> Grid<T> {
         requires spot { IsSpot self.now.shape spot spot.place }
         requires held { (values : ℕ → Option (Shown T))
             × AreLeft T.content T.room (spots_at self.now.objects.ptr self.now.shape) spot.place self.now.shape Untouched J.stored values
-            × (hand.old.me.1 ≡ held_of self.now.shape spot.place (λ position. position) values self.now.shape.lanes) }
+            × (hand.old.me.1 ≡ held_of self.now.shape spot.place (λ position. position) values (callers self.now.shape)) }
         ensures hand { SameSeat hand.old hand.new }
         ensures held { hand.new.me ≡ (
           hand.old.me.0,
           held_of self.now.shape spot.place (λ position. position) (λ _. None)
-              self.now.shape.lanes,
+              (callers self.now.shape),
         ) }
         ensures rest { AreOf T.content T.room (spots_at self.now.objects.ptr self.now.shape) spot.place self.now.shape J.stored result }
     {
         let row = self.row;
-        let last = self.shape.lanes - 1;
+        let last = self.shape.lanes + self.shape.guests - 1;
         let mut rest = Rest::of_last(self.take_next(hand, row, spot, last));
         let mut number = last;
         while number > 0 {
@@ -460,17 +461,17 @@ impl<T: Clear> Grid<T> {
         requires hand { IsOf self.now hand.old }
         requires spot { IsSpot self.now.shape spot spot.place }
         requires held { (values : ℕ → Option (Shown T))
-            × (hand.old.me.1 ≡ held_of self.now.shape spot.place (λ position. self.now.shape.lanes - 1 - position) values
-            self.now.shape.lanes) }
+            × (hand.old.me.1 ≡ held_of self.now.shape spot.place (λ position. callers self.now.shape - 1 - position) values
+            (callers self.now.shape)) }
         requires rest { AreOf T.content T.room (spots_at self.now.objects.ptr self.now.shape) spot.place self.now.shape J.stored rest }
         ensures hand { SameSeat hand.old hand.new × (hand.new.me.0 ≡ hand.old.me.0) }
         ensures held { (values : ℕ → Option (Shown T))
             × AreLeft T.content T.room (spots_at self.now.objects.ptr self.now.shape) spot.place self.now.shape Untouched J.stored values
-            × (hand.new.me.1 ≡ held_of self.now.shape spot.place (λ position. self.now.shape.lanes - 1 - position) values
-            self.now.shape.lanes) }
+            × (hand.new.me.1 ≡ held_of self.now.shape spot.place (λ position. callers self.now.shape - 1 - position) values
+            (callers self.now.shape)) }
     {
         let row = self.row;
-        let last = self.shape.lanes - 1;
+        let last = self.shape.lanes + self.shape.guests - 1;
         let mut rest = rest;
         for number in 0..last {
             self.put_next(hand, row, spot, number, rest.cut());
@@ -484,7 +485,7 @@ impl<T: Clear> Grid<T> {
     pub fn out_all(&self, hand: &mut Hand<T>, spot: Spot, lane: u32) -> Rest<T>
         requires hand { IsOf self.now hand.old × IsOne hand.old.me.0 × (hand.old.me.1 ≡ []) }
         requires spot { IsSpot self.now.shape spot spot.place }
-        requires lane { lane < self.now.shape.lanes }
+        requires lane { lane < callers self.now.shape }
         requires place { HasPlace self.now.shape hand.old.me.0 spot.place }
         requires left { LeftAlone self.now.shape (the_lane hand.old.me.0) spot.place }
         ensures hand { SameSeat hand.old hand.new }
@@ -503,10 +504,10 @@ impl<T: Clear> Grid<T> {
     pub fn back_all(&self, hand: &mut Hand<T>, spot: Spot, lane: u32, rest: Rest<T>)
         requires hand { IsOf self.now hand.old × IsOne hand.old.me.0 × (hand.old.me.1 ≡ []) }
         requires spot { IsSpot self.now.shape spot spot.place }
-        requires lane { lane < self.now.shape.lanes }
+        requires lane { lane < callers self.now.shape }
         requires place { HasPlace self.now.shape hand.old.me.0 spot.place }
-        requires left { (number : ℕ) → number < self.now.shape.lanes → status_of (the_lane hand.old.me.0) spot.place number ≡ Emptied }
-        requires rest { (rest.number ≡ 0) × (rest.of ≡ self.now.shape.lanes)
+        requires left { (number : ℕ) → number < callers self.now.shape → status_of (the_lane hand.old.me.0) spot.place number ≡ Emptied }
+        requires rest { (rest.number ≡ 0) × (rest.of ≡ callers self.now.shape)
             × (rest.spot ≡ spots_at self.now.objects.ptr self.now.shape spot.place) }
         ensures hand { SameSeat hand.old hand.new }
         ensures backs { BacksAll T.content T.room (spots_at self.now.objects.ptr self.now.shape) self.now.shape spot.place hand.old.me

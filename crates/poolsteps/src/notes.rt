@@ -1,4 +1,5 @@
 //! What lanes tell each other, and the end of a pool's table.
+ghost use Rattle.keybits.specs.Shapes.{callers};
 ghost use Rattle.std.specs.Prelude.{◌≡◌, ◌<◌, []};
 ghost use Rattle.std.specs.Mem.Slots.{slots_items, slots_len, IsFull};
 ghost use Rattle.poolsteps.specs.Layout.{word_count, slot_count};
@@ -111,7 +112,7 @@ impl<T: Clear> Grid<T> {
     /// It is one look, and a load before it.
     pub fn hear(&self, hand: &mut Hand<T>, lane: u32, note: Hand<T>)
         requires hand { IsOf self.now hand.old × IsOne hand.old.me.0 }
-        requires lane { lane < self.now.shape.lanes }
+        requires lane { lane < callers self.now.shape }
         requires note { IsOf self.now note × (note.me.1 ≡ []) }
         ensures hand { SameSeat hand.old hand.new }
         ensures sees { Sees self.now.shape hand.old.me hand.new.me }
@@ -126,7 +127,7 @@ impl<T: Clear> Grid<T> {
     /// other, have seen one history.
     pub fn meet(&self, hand: &mut Hand<T>, lane: u32, note: Hand<T>)
         requires hand { IsOf self.now hand.old × IsOne hand.old.me.0 }
-        requires lane { lane < self.now.shape.lanes }
+        requires lane { lane < callers self.now.shape }
         requires note { IsOf self.now note × (note.me.1 ≡ []) }
         ensures hand { SameSeat hand.old hand.new }
         ensures sees { Sees self.now.shape hand.old.me hand.new.me }
@@ -140,7 +141,7 @@ impl<T: Clear> Grid<T> {
     fn see_no_further<J: Aim>(&self, hand: &mut Hand<T>, lane: u32)
         requires aim { J.shape ≡ self.now.shape }
         requires hand { IsOf self.now hand.old × IsOne hand.old.me.0 }
-        requires lane { lane < self.now.shape.lanes }
+        requires lane { lane < callers self.now.shape }
         ensures hand { SameSeat hand.old hand.new }
         ensures sees { SeesNoFurther self.now.shape hand.old.me hand.new.me }
     {
@@ -161,7 +162,7 @@ impl<T: Clear> Grid<T> {
     fn see_told<J: Aim>(&self, hand: &mut Hand<T>, lane: u32)
         requires aim { J.shape ≡ self.now.shape }
         requires hand { IsOf self.now hand.old × IsOne hand.old.me.0 }
-        requires lane { lane < self.now.shape.lanes }
+        requires lane { lane < callers self.now.shape }
         ensures hand { SameSeat hand.old hand.new }
         ensures sees { SeesTold self.now.shape hand.old.me hand.new.me }
     {

@@ -33,9 +33,9 @@ impl<T: Clear> Grid<T> {
         ensures shape { IfSome result (λ made. (made.0.shape ≡ shape.now) × (made.0.objects ≡ objects)) }
         ensures hands { IfSome result (λ made. AreFirstHands made.0 made.1.items) }
     {
-        let mut hands = Vec::with_capacity(alloc, shape.lanes as usize).ok()?;
+        let mut hands = Vec::with_capacity(alloc, (shape.lanes + shape.guests) as usize).ok()?;
         let (grid, mut seat) = Grid::undealt(alloc, *shape, objects)?;
-        for _ in 0..shape.lanes {
+        for _ in 0..shape.lanes + shape.guests {
             hands.push_reserved(grid.deal(&mut seat));
         }
         Some((grid, hands))

@@ -1,5 +1,6 @@
 //! The steps by which a place of another shard is returned and returned places are taken, and the look. Each is one
 //! call of the table.
+ghost use Rattle.keybits.specs.Shapes.{callers};
 ghost use Rattle.std.specs.Prelude.{◌≡◌, ◌≢◌, ◌<◌, ◌∷◌, Some, Option, ℕ};
 ghost use Rattle.keybits.specs.declared.step.Word.TheVariants as words;
 ghost use Rattle.poolsteps.specs.Layout.{index_in, word_count};
@@ -167,6 +168,7 @@ impl<T: Clear> Grid<T> {
     pub fn follow(&self, hand: &mut Hand<T>, spot: Spot) -> u64
         requires hand { IsOf self.now hand.old × IsOne hand.old.me.0 }
         requires spot { IsSpot self.now.shape spot spot.place }
+        requires lane { (the_lane hand.old.me.0).lane < self.now.shape.lanes }
         requires chain { (the_lane hand.old.me.0).chain ≡ spot.place ∷ rest_of (the_lane hand.old.me.0).chain }
         ensures hand { SameSeat hand.old hand.new }
         ensures follows { Follows self.now.shape hand.old.me result hand.new.me }
@@ -179,6 +181,7 @@ impl<T: Clear> Grid<T> {
         requires aim { J.shape ≡ self.now.shape }
         requires hand { IsOf self.now hand.old × IsOne hand.old.me.0 }
         requires spot { IsSpot self.now.shape spot spot.place }
+        requires lane { (the_lane hand.old.me.0).lane < self.now.shape.lanes }
         requires chain { (the_lane hand.old.me.0).chain ≡ spot.place ∷ rest_of (the_lane hand.old.me.0).chain }
         ensures hand { SameSeat hand.old hand.new }
         ensures follows { Follows self.now.shape hand.old.me result hand.new.me }
@@ -218,7 +221,7 @@ impl<T: Clear> Grid<T> {
     #[inline]
     pub fn see(&self, hand: &mut Hand<T>, lane: u32)
         requires hand { IsOf self.now hand.old × IsOne hand.old.me.0 }
-        requires lane { lane < self.now.shape.lanes }
+        requires lane { lane < callers self.now.shape }
         ensures hand { SameSeat hand.old hand.new }
         ensures sees { Sees self.now.shape hand.old.me hand.new.me }
     {
@@ -229,7 +232,7 @@ impl<T: Clear> Grid<T> {
     fn see_as<J: Aim>(&self, hand: &mut Hand<T>, lane: u32)
         requires aim { J.shape ≡ self.now.shape }
         requires hand { IsOf self.now hand.old × IsOne hand.old.me.0 }
-        requires lane { lane < self.now.shape.lanes }
+        requires lane { lane < callers self.now.shape }
         ensures hand { SameSeat hand.old hand.new }
         ensures sees { Sees self.now.shape hand.old.me hand.new.me }
     {

@@ -2,7 +2,7 @@
 ghost use Rattle.std.specs.Prelude.{◌≡◌, ◌<◌, true, false};
 ghost use Rattle.keybits.specs.Keys.{place_of, is_key};
 ghost use Rattle.steplaws.specs.declared.pending.Pending.TheVariants.{Undo, Owes};
-ghost use Rattle.steplaws.specs.Facts.{most_references};
+ghost use Rattle.steplaws.specs.Facts.{most_of};
 ghost use Rattle.poolsteps.specs.declared.steps.Purpose.TheVariants.{ToGet};
 ghost use Rattle.poolsteps.specs.Views.{the_lane, known_of, IsOne};
 ghost use Rattle.poolsteps.specs.Grids.{IsSpot, IsOf, SameSeat};
@@ -50,7 +50,7 @@ impl Aim for Brand {
     ghost use Rattle.poolsteps.specs.Shares.{nothing_stored};
     ghost use Rattle.poolsteps.specs.declared.steps.Purpose.TheVariants.{ToGet};
 
-    ghost shape = { record { lanes = 1; first_page = 1; pages = 1; last_generation = 1; tag = 0 } };
+    ghost shape = { record { lanes = 1; first_page = 1; pages = 1; last_generation = 1; tag = 0; guests = 0 } };
 
     ghost purpose = { ToGet };
 
@@ -137,7 +137,8 @@ impl<T: Clear> Grid<T> {
         requires spot { IsSpot self.now.shape spot (place_of key) }
         requires key { is_key self.now.shape key ≡ true }
         requires idle { IsIdle hand.old.me.0 }
-        requires room { purpose ≡ ToGet → references_seen self.now.shape hand.old.me.0 key < most_references }
+        requires room { purpose ≡ ToGet
+            → references_seen self.now.shape hand.old.me.0 key < most_of self.now.shape (the_lane hand.old.me.0).lane }
         ensures hand { SameSeat hand.old hand.new }
         ensures enters { Enters self.now.shape purpose key hand.old.me result hand.new.me }
     {
@@ -151,7 +152,8 @@ impl<T: Clear> Grid<T> {
         requires spot { IsSpot self.now.shape spot (place_of key) }
         requires key { is_key self.now.shape key ≡ true }
         requires idle { IsIdle hand.old.me.0 }
-        requires room { purpose ≡ ToGet → references_seen self.now.shape hand.old.me.0 key < most_references }
+        requires room { purpose ≡ ToGet
+            → references_seen self.now.shape hand.old.me.0 key < most_of self.now.shape (the_lane hand.old.me.0).lane }
         ensures hand { SameSeat hand.old hand.new }
         ensures enters { Enters self.now.shape purpose key hand.old.me result hand.new.me }
     {

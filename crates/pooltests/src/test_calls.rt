@@ -24,18 +24,22 @@ pub(crate) const NO_PLACE: Census = Census {
 };
 
 /// A pool of so many lanes, of so many pages, of which the first has so many places.
-pub(crate) const fn shape_of(lanes: u32, first_page: u32, pages: u32) -> Shape {
+pub(crate) const fn shape_of(lanes: u32, first_page: u32, pages: u32) -> Shape
+    ensures { result.guests ≡ 0 }
+{
     Shape {
         lanes,
         first_page,
         pages,
         last_generation: u32::MAX,
         tag: 0,
+        guests: 0,
     }
 }
 
 /// A pool of this shape, with its lanes.
 pub(crate) fn open_of<T: Clear + Drop, R: Abort>(rt: &R, alloc: Global, shape: Shape) -> Opened<T>
+    requires { shape.guests ≡ 0 }
     ensures { HoldNothing result.lanes }
 {
     let Ok(opened) = open_lanes(alloc, shape) else {
@@ -75,6 +79,7 @@ pub(crate) fn open_last<T: Clear + Drop, R: Abort>(
     alloc: Global,
     shape: Shape,
 ) -> (Pool<T>, Lane<T>)
+    requires { shape.guests ≡ 0 }
     ensures { Owns result.0 result.1 × (refs result.1 ≡ 0) }
 {
     let mut opened = open_of(rt, alloc, shape);
@@ -88,6 +93,7 @@ pub(crate) fn open_wide_last<T: Clear + Drop, R: Abort>(
     alloc: Global,
     shape: Shape,
 ) -> (Pool<T>, Lane<T>)
+    requires { shape.guests ≡ 0 }
     ensures { Owns result.0 result.1 × (refs result.1 ≡ 0) }
 {
     let Ok(mut opened) = open_lanes_wide(alloc, shape) else {

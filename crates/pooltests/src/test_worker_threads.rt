@@ -111,7 +111,9 @@ fn run_all<R: Threads + Wait + Abort + Sync, G: Gate + Sync>(
     shape: Shape,
     lines: usize,
     gate: &G,
-) -> (Vec<Result<Report, AllocError>>, Census) {
+) -> (Vec<Result<Report, AllocError>>, Census)
+    requires { shape.guests ≡ 0 }
+{
     let Ok((pool, lanes)) = open(alloc, shape) else {
         panic!(rt; "no pool")
     };

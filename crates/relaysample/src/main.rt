@@ -43,6 +43,7 @@ const SHAPE: Shape = Shape {
     pages: 3,
     last_generation: u32::MAX,
     tag: 0,
+    guests: 0,
 };
 
 /// What came of a run.

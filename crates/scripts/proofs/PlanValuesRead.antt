@@ -132,27 +132,27 @@ as-many [] (d ∷ ds) are = absurd are
 as-many (s ∷ ss) [] are = absurd are
 as-many (s ∷ ss) (d ∷ ds) are = ap suc (as-many ss ds are.1)
 
-shape-read : (z : Shape) → AreWithin z → shape_of (shape_data z) ≡ Ok z
-shape-read z within = rw (
+shape-read : (z : Shape) → AreWithin z → z.guests ≡ 0 → shape_of (shape_data z) ≡ Ok z
+shape-read z within alone = rw (
   le-leb z.lanes 4294967295 within.lanes,
   le-leb z.first_page 4294967295 within.first_page,
   le-leb z.pages 4294967295 within.pages,
   le-leb z.last_generation 4294967295 within.last_generation,
   le-leb z.tag 4294967295 within.tag,
-) refl
+) (ap (λ (guests : ℕ). Ok (record z { guests = guests })) (sym alone))
 
 -- the value of a plan
 abbrev pub file_data : Shape → List Data → Data
 file_data z ds = with_fields (array (items_of ds)) (shape_data z)
 
-file-read : (z : Shape) (ds : List Data) → AreWithin z → file_of (file_data z ds) ≡ Ok (z, list_of (items_of ds))
-file-read z ds within = rw (shape-read z within) refl
+file-read : (z : Shape) (ds : List Data) → AreWithin z → z.guests ≡ 0 → file_of (file_data z ds) ≡ Ok (z, list_of (items_of ds))
+file-read z ds within alone = rw (shape-read z within alone) refl
 
 pub plan-of : (plan : Plan) (ds : List Data) (d : Data) → AreWithin plan.shape → IsNarrow plan.shape → length plan.scripts ≡ plan.shape.lanes
     → AreEach IsScriptOf plan.scripts ds → d ≡ file_data plan.shape ds → IsPlanOf d plan
 plan-of plan ds d within narrow lanes are is = subst (λ (e : Data). IsPlanOf e plan) (sym is) (record {
   items = ds;
-  file = file-read plan.shape ds within ∙ ap (λ (es : List Data). Ok (plan.shape, es)) (list-items ds);
+  file = file-read plan.shape ds within narrow.3 ∙ ap (λ (es : List Data). Ok (plan.shape, es)) (list-items ds);
   shape = narrow;
   scripts = rw (eq-eqb (length ds) plan.shape.lanes (as-many plan.scripts ds are ∙ lanes)) (scripts-read 0 plan.scripts ds are);
   lanes = lanes;

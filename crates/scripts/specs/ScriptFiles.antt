@@ -99,7 +99,7 @@ shape_of d = do
   pages ← number_at names.Pages d
   last_generation ← number_at names.LastGeneration d
   tag ← tag_of d
-  Ok (record { lanes = lanes; first_page = first_page; pages = pages; last_generation = last_generation; tag = tag })
+  Ok (record { lanes = lanes; first_page = first_page; pages = pages; last_generation = last_generation; tag = tag; guests = 0 })
 
 -- the fields of a file, which is an object with exactly these: `shape`, an object with exactly a shape's, and the items of `scripts`, an array
 abbrev pub fields_of : Data → Result (Data × List Data) ScriptRefusal

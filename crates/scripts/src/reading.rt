@@ -59,6 +59,7 @@ fn read_shape(value: &Value) -> Result<Shape, ScriptRefusal>
         pages,
         last_generation,
         tag,
+        guests: 0,
     })
 }
 

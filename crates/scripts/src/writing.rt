@@ -135,6 +135,7 @@ fn shape_value(alloc: Global, shape: &Shape) -> Result<Value, AllocError>
         pages,
         last_generation,
         tag,
+        ..
     } = *shape;
     json!(in alloc; {
         "lanes": lanes,

@@ -1,6 +1,7 @@
 -- Histories that grow by an act or by a history, and what an act leaves as it was.
 use Rattle.std.proofs.Common.{◌≡◌, ◌≢◌, ℕ, zero, suc, ◌<◌, Bool, true, false, cond, eqb, List, [], ◌∷◌, ◌++◌, take, refl, sym, ap, ◌∙◌, subst, eq-eqb, ne_eqb, append-nil}
 use Rattle.keybits.specs.declared.shape.Shape.{Shape}
+use Rattle.keybits.specs.Shapes.{callers}
 use Rattle.seqpool.specs.declared.act.Act.{Act}
 use Rattle.seqpool.specs.Pool.{Pool, lane_of, Allowed, touches, changed, after, pool_from, LegalFrom}
 use Rattle.seqpool.specs.Histories.{acts_of, At}
@@ -11,7 +12,7 @@ module _ (z : Shape) where
   pool-snoc P (b ∷ more) act = pool-snoc (after z b P) more act
 
   pub legal-snoc : (P : Pool) (history : List Act) (act : Act)
-      → LegalFrom z P history → lane_of act < z.lanes → Allowed z (pool_from z P history) act → LegalFrom z P (history ++ act ∷ [])
+      → LegalFrom z P history → lane_of act < callers z → Allowed z (pool_from z P history) act → LegalFrom z P (history ++ act ∷ [])
   legal-snoc P [] act legal inside ok = (inside, ok, tt)
   legal-snoc P (b ∷ more) act legal inside ok = (legal.0, legal.1, legal-snoc (after z b P) more act legal.2 inside ok)
 
@@ -40,10 +41,10 @@ module _ (z : Shape) where
 
   -- the act at a position is allowed after those before it
   pub legal-at : (P : Pool) (history : List Act) (i : ℕ) (act : Act) → LegalFrom z P history → At history i act
-      → (lane_of act < z.lanes) × Allowed z (pool_from z P (take i history)) act
+      → (lane_of act < callers z) × Allowed z (pool_from z P (take i history)) act
   legal-at P [] i act legal at = absurd (cc at)
   legal-at P (x ∷ xs) zero act legal at =
-      let same : x ≡ act = cc at in subst (λ (a : Act). (lane_of a < z.lanes) × Allowed z P a) same (legal.0, legal.1)
+      let same : x ≡ act = cc at in subst (λ (a : Act). (lane_of a < callers z) × Allowed z P a) same (legal.0, legal.1)
   legal-at P (x ∷ xs) (suc i) act legal at = legal-at (after z x P) xs i act legal.2 at
 
   -- a place that the act is of, and one that it isn't of

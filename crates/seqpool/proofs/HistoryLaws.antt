@@ -1,5 +1,5 @@
 -- A legal history has the laws, and grows act by act.
-use Rattle.std.proofs.Common.{◌≡◌, ◌≢◌, ℕ, ◌+◌, ◌<◌, List, [], ◌∷◌, ◌++◌, length, get_or, take, Some, sym, ap, ◌∙◌, subst}
+use Rattle.std.proofs.Common.{arith, ◌≡◌, ◌≢◌, ℕ, ◌+◌, ◌<◌, List, [], ◌∷◌, ◌++◌, length, get_or, take, Some, sym, ap, ◌∙◌, subst}
 use Rattle.std.proofs.lemmas.List.{take_more}
 use Rattle.std.proofs.lemmas.Option.{slice_get-get_or}
 use Rattle.keybits.specs.declared.shape.Shape.{Shape}
@@ -30,7 +30,7 @@ pub legal-more : (z y : Shape) (P : Pool) (acts : List Act) (i : ℕ) (act : Act
     → IsLegal z (take i acts) → lane_of act < y.lanes → Allowed y P act → IsLegal z (take (i + 1) acts)
 legal-more z y P acts i act below is shapes pools legal inside ok =
     subst (IsLegal z) (sym (one-more acts i act below is))
-    (legal-snoc z fresh (take i acts) act legal (subst (λ (x : Shape). lane_of act < x.lanes) shapes inside)
+    (legal-snoc z fresh (take i acts) act legal (let within : lane_of act < z.lanes = subst (λ (x : Shape). lane_of act < x.lanes) shapes inside in omega arith)
     (subst (λ (Q : Pool). Allowed z Q act) pools (subst (λ (x : Shape). Allowed x P act) shapes ok)))
 
 pub pool-more : (z y : Shape) (P Q : Pool) (acts : List Act) (i : ℕ) (act : Act) → i < length acts → act ≡ get_or acts i act → y ≡ z → P ≡ pool_after z (take i acts)

@@ -60,10 +60,10 @@ line-of z tagged text c is last =
     ∙ ap (λ (xs : List ℕ). xs ++ codes "\n") (sym (shape_line-parts z tagged))
 
 -- the line of these numbers
-pub shape-of : (z : Shape) (text a b c : List ℕ) → IsLed 4294967295 z.lanes text a → IsLed 4294967295 z.first_page a b
+pub shape-of : (z : Shape) (text a b c : List ℕ) → z.guests ≡ 0 → IsLed 4294967295 z.lanes text a → IsLed 4294967295 z.first_page a b
     → IsLed 4294967295 z.pages b c → AreLast (z.last_generation, z.tag) c → IsShapeOf z (codes "shape " ++ text)
-shape-of z text a b c (one, first) (two, second) (three, third) (four, five, last) = (
-  record { lanes = one; first_page = two; pages = three; last_generation = four; tag = five },
+shape-of z text a b c alone (one, first) (two, second) (three, third) (four, five, last) = (
+  record { lanes = one; first_page = two; pages = three; last_generation = four; tag = five; alone = alone },
   at last,
 )
   where
@@ -154,18 +154,19 @@ last-same g t h u text (low, small, inr (none, one)) (few, less, inl two) =
 last-same g t h u text (low, small, inr (none, one)) (few, less, inr (nothing, two)) =
     (u32-same g h low few (sym one ∙ two), none ∙ sym nothing)
 
-abbrev shape_with : ℕ → ℕ → ℕ → ℕ → ℕ → Shape
-shape_with lanes first_page pages generation tag =
-    record { lanes = lanes; first_page = first_page; pages = pages; last_generation = generation; tag = tag }
+abbrev shape_with : ℕ → ℕ → ℕ → ℕ → ℕ → ℕ → Shape
+shape_with lanes first_page pages generation tag guests =
+    record { lanes = lanes; first_page = first_page; pages = pages; last_generation = generation; tag = tag; guests = guests }
 
 fields-same : (y z : Shape) → y.lanes ≡ z.lanes → y.first_page ≡ z.first_page → y.pages ≡ z.pages → y.last_generation ≡ z.last_generation
-    → y.tag ≡ z.tag → y ≡ z
-fields-same y z one two three four five =
-    ap (λ (n : ℕ). shape_with n y.first_page y.pages y.last_generation y.tag) one
-    ∙ (ap (λ (n : ℕ). shape_with z.lanes n y.pages y.last_generation y.tag) two
-    ∙ (ap (λ (n : ℕ). shape_with z.lanes z.first_page n y.last_generation y.tag) three
-    ∙ (ap (λ (n : ℕ). shape_with z.lanes z.first_page z.pages n y.tag) four
-    ∙ ap (λ (n : ℕ). shape_with z.lanes z.first_page z.pages z.last_generation n) five)))
+    → y.tag ≡ z.tag → y.guests ≡ z.guests → y ≡ z
+fields-same y z one two three four five six =
+    ap (λ (n : ℕ). shape_with n y.first_page y.pages y.last_generation y.tag y.guests) one
+    ∙ (ap (λ (n : ℕ). shape_with z.lanes n y.pages y.last_generation y.tag y.guests) two
+    ∙ (ap (λ (n : ℕ). shape_with z.lanes z.first_page n y.last_generation y.tag y.guests) three
+    ∙ (ap (λ (n : ℕ). shape_with z.lanes z.first_page z.pages n y.tag y.guests) four
+    ∙ (ap (λ (n : ℕ). shape_with z.lanes z.first_page z.pages z.last_generation n y.guests) five
+    ∙ ap (λ (n : ℕ). shape_with z.lanes z.first_page z.pages z.last_generation z.tag n) six))))
 
 pub shape-same : (y z : Shape) (line : List ℕ) → IsShapeOf y line → IsShapeOf z line → y ≡ z
 shape-same y z line has also =
@@ -180,7 +181,7 @@ shape-same y z line has also =
     let (generations, tags) =
     last-same y.last_generation y.tag z.last_generation z.tag p.ending p.last
     (subst (λ (xs : List ℕ). AreLast (z.last_generation, z.tag) xs) (sym third) q.last) in
-    fields-same y z lanes first_pages pages generations tags
+    fields-same y z lanes first_pages pages generations tags (has.0.alone ∙ sym also.0.alone)
 
 -- a line of a shape has no line feed
 

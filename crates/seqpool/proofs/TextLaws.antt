@@ -176,7 +176,7 @@ head-split bytes line rest z more first head =
 
 -- a shape within the narrow limits has no fault
 no-fault : (z : Shape) (fault : ShapeFault) → IsNarrow z → IsFirstFault z fault → ⊥
-no-fault z fault checked first = first.0 ((narrow_each z).1 checked fault)
+no-fault z fault checked first = first.0 ((narrow_each z checked.3).1 checked fault)
 
 fault_at : ℕ → ShapeFault
 fault_at n =

@@ -120,6 +120,7 @@ pub record AreNumbers (z : Shape) : Type 0 where
   pub pages : IsU32 z.pages
   pub last_generation : IsU32 z.last_generation
   pub tag : IsU32 z.tag
+  pub alone : z.guests ≡ 0
 
 -- the line of a shape: with its tag, or without it where the tag is 0
 abbrev pub IsShapeText : Shape → List ℕ → Type 0

@@ -2,7 +2,7 @@
 use Rattle.std.specs.Prelude.{◌≡◌, ◌≢◌, ◌==◌, ◌&&◌, ℕ, ◌+◌, ◌-◌, ◌<◌, Bool, true, false, not, List, [], ◌∷◌, Option, Some, None, if◌then◌else◌}
 use Rattle.keybits.specs.declared.shape.Shape.{Shape}
 use Rattle.keybits.specs.Places.{shard_of}
-use Rattle.keybits.specs.Shapes.{is_place}
+use Rattle.keybits.specs.Shapes.{is_place, callers}
 use Rattle.keybits.specs.Keys.{place_of, generation_of, is_key}
 use Rattle.seqpool.specs.declared.act.Act.{Act}
 use Rattle.seqpool.specs.declared.act.Act.TheVariants.{Publish, Get, Release, Clear, Reclaim, Home, Collect}
@@ -138,7 +138,7 @@ lane_of (Reclaim lane key) = lane
 lane_of (Home lane place) = lane
 lane_of (Collect lane places) = lane
 
--- what an act needs, beside a lane of the shape, and which reply it has
+-- what an act needs, beside a caller of the shape, and which reply it has
 abbrev pub Allowed : Shape → Pool → Act → Type 0
 Allowed z pool (Publish lane key content with_ref) =
     (is_current z pool key ≡ true) × ((pool (place_of key)).phase ≡ with lane)
@@ -184,10 +184,10 @@ abbrev pub pool_from : Shape → Pool → List Act → Pool
 pool_from z pool [] = pool
 pool_from z pool (act ∷ more) = pool_from z (after z act pool) more
 
--- each act of a history, made by a lane of the shape, is allowed after those before it, from a pool
+-- each act of a history, made by a lane or a guest of the shape, is allowed after those before it, from a pool
 abbrev pub LegalFrom : Shape → Pool → List Act → Type 0
 LegalFrom z pool [] = Unit {0}
-LegalFrom z pool (act ∷ more) = (lane_of act < z.lanes) × Allowed z pool act × LegalFrom z (after z act pool) more
+LegalFrom z pool (act ∷ more) = (lane_of act < callers z) × Allowed z pool act × LegalFrom z (after z act pool) more
 
 -- the pool after a history
 abbrev pub pool_after : Shape → List Act → Pool

@@ -153,6 +153,7 @@ fn read_numbers(text: &[u8]) -> Option<Shape>
         pages,
         last_generation,
         tag,
+        guests: 0,
     })
 }
 

@@ -23,6 +23,7 @@ pub struct SeqPool {
 
     ghost checked: { IsShape shape } by { IsShape-prop shape },
     ghost narrow: { shape.lanes ≤ NARROW_LANES },
+    ghost alone: { shape.guests ≡ 0 },
     ghost whole: { vec_len rows ≡ all_places shape },
 }
 

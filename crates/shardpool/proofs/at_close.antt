@@ -4,6 +4,8 @@ pub mod DroppedCells
 pub mod ReturnedShares
 pub mod Parts
 pub mod LaneParts
+pub mod GoneGuests
 pub mod LastHistory
+pub mod GuestHands
 pub mod GridEnd
 pub mod SortedLanes

@@ -1,7 +1,4 @@
 -- What a call leaves alone: what of a lane, its places and its history stays while it or others act.
-pub mod OtherShards
-pub mod Frames
-pub mod RetiredPlaces
 pub mod LaneFrames
 pub mod Standing
 pub mod KeptPlaces

@@ -6,5 +6,6 @@ pub mod Known
 pub mod Pages
 pub mod OwnLists
 pub mod Takes
+pub mod Gathers
 pub mod Words
 pub mod Starts

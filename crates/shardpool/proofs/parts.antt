@@ -1,13 +1,6 @@
 -- The parts of calls: how steps and moves are put together, and told as the steps of a call.
-pub mod Doing
-pub mod Returning
-pub mod Ending
 pub mod Filling
-pub mod Calling
-pub mod Standing
 pub mod AtOnce
-pub mod Moves
-pub mod Going
 pub mod Following
 pub mod Keying
 pub mod Chaining

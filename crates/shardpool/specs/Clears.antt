@@ -8,8 +8,8 @@ use Rattle.seqpool.specs.declared.act.Act.TheVariants as acts
 use Rattle.steplaws.specs.Calls.Call.{Clearing}
 use Rattle.poolsteps.specs.declared.view.View.{View}
 use Rattle.poolsteps.specs.Told.{Sees}
-use Rattle.shardpool.specs.declared.reclaim.Reclaimed.{Reclaimed}
-use Rattle.shardpool.specs.Called.{Called, EndsWithActs, IsReclaimed, StandsAt}
+use Rattle.seatcalls.specs.declared.at.Reclaimed.{Reclaimed}
+use Rattle.seatcalls.specs.Called.{Called, EndsWithActs, IsReclaimed, StandsAt}
 
 -- the lane made a clear of the key, in so many looks at most: this is its reply, and this became of the place, whose object stands in this word
 pub record Clears {S T : Type 0} (content : T → List ℕ) (room : T

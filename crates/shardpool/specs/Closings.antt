@@ -4,29 +4,47 @@ use mathlib.Core.List.{IsPrefix}
 use Rattle.keybits.specs.declared.shape.Shape.{Shape}
 use Rattle.keybits.specs.declared.place.Place.{Place}
 use Rattle.keybits.specs.Places.{shard_of, page_of, number_of}
-use Rattle.keybits.specs.Shapes.{all_places, shard_places, is_place, index_of}
+use Rattle.keybits.specs.Shapes.{all_places, shard_places, is_place, index_of, callers}
 use Rattle.keybits.specs.Homes.{AreHome}
 use Rattle.keybits.specs.Links.{Leads}
 use Rattle.seqpool.specs.declared.act.Act.{Act}
 use Rattle.seqpool.specs.Pool.{Phase, with, published, home, retired, has, pool_after, IsLegal}
 use Rattle.seqpool.specs.Histories.{acts_of}
-use Rattle.steplaws.specs.Facts.{Words, State, home_in}
+use Rattle.keybits.specs.Rows.{row_word}
+use Rattle.steplaws.specs.Facts.{Words, State, lane_home, guest_home}
 use Rattle.poolsteps.specs.Owners.{ArePublishedByOwners}
 use Rattle.poolsteps.specs.Views.{the_lane}
 use Rattle.shardpool.specs.declared.census.Census.{Census}
 use Rattle.shardpool.specs.declared.census.Part.{Part}
 use Rattle.shardpool.specs.declared.census.Part.TheVariants.{Free, Unopened, Filling, Present, Marked, Retired}
 use Rattle.shardpool.specs.declared.pool.LaneState.{LaneState}
-use Rattle.shardpool.specs.Tokens.{PoolOf, LaneOf}
+use Rattle.seatcalls.specs.Visitors.{GuestOf}
+use Rattle.shardpool.specs.Tokens.{PoolOf, LaneOf, GuestsOf}
 use Rattle.shardpool.specs.Lanes.{Owns, IsKept}
 use Rattle.shardpool.specs.LaneStates.{IsFirst}
 
 -- these are all the lanes of the pool: as many as it has, and each number is one's
-pub record AreLanes (pool : PoolOf) (lanes : List LaneOf) : Type 0 where
+pub record AreAllLanes (pool : PoolOf) (lanes : List LaneOf) : Type 0 where
   pub count : length lanes ≡ pool.shape.lanes
   pub owned : (index : ℕ) (lane : LaneOf) → slice_get lanes index ≡ Some lane → Owns pool lane
   pub all : (number : ℕ) → number < pool.shape.lanes → (index : ℕ) × (lane : LaneOf) × (slice_get lanes index ≡ Some lane)
       × (lane.number ≡ number)
+
+-- these are all the lanes of the pool, which has no guests
+pub record AreLanes (pool : PoolOf) (lanes : List LaneOf) : Type 0 where
+  pub alone : pool.shape.guests ≡ 0
+  pub count : length lanes ≡ pool.shape.lanes
+  pub owned : (index : ℕ) (lane : LaneOf) → slice_get lanes index ≡ Some lane → Owns pool lane
+  pub all : (number : ℕ) → number < pool.shape.lanes → (index : ℕ) × (lane : LaneOf) × (slice_get lanes index ≡ Some lane)
+      × (lane.number ≡ number)
+
+-- these are all the guests of the pool: those that were never dealt, and of the others as many as there are, each number one's
+pub record AreGuests (pool : PoolOf) (undealt : GuestsOf) (dealt : List GuestOf) : Type 0 where
+  pub rest : (undealt.table ≡ pool.table) × (undealt.shape ≡ pool.shape)
+  pub count : pool.shape.lanes + length dealt ≡ undealt.next
+  pub owned : (index : ℕ) (guest : GuestOf) → slice_get dealt index ≡ Some guest → (guest.table ≡ pool.table) × (guest.shape ≡ pool.shape)
+  pub all : (number : ℕ) → pool.shape.lanes ≤ number → number < undealt.next → (index : ℕ) × (guest : GuestOf)
+      × (slice_get dealt index ≡ Some guest) × (guest.number ≡ number)
 
 -- where a place is after a history
 abbrev pub phase_at : List Act → LaneOf → ℕ → Phase
@@ -103,6 +121,15 @@ pub record Closes (pool : PoolOf) (lanes : List LaneOf) (census : Census) : Type
   pub last : IsLastHistory pool lanes history
   pub census_is : IsCensus pool.shape history lanes census
 
+-- the same of a pool with guests: its history begins with what each guest saw, has of each just its acts, and none of one that was never dealt
+pub record ClosesWithGuests (pool : PoolOf) (lanes : List LaneOf) (undealt : GuestsOf) (dealt : List GuestOf) (census : Census) : Type 0
+  where
+    pub closes : Closes pool lanes census
+    pub begins : (index : ℕ) (guest : GuestOf) → slice_get dealt index ≡ Some guest → IsPrefix guest.book.seen closes.history
+    pub own : (index : ℕ) (guest : GuestOf) → slice_get dealt index ≡ Some guest
+        → (the_lane guest.book).mine ≡ acts_of guest.number closes.history
+    pub unmade : (number : ℕ) → undealt.next ≤ number → number < callers pool.shape → acts_of number closes.history ≡ []
+
 -- ---- the parts of a close
 
 -- what a lane keeps, beside the last words of the pool and its history
@@ -124,8 +151,9 @@ pub record AreLast {T : Type 0} (z : Shape) (history : List Act) (lanes : List L
     Type 0 where
   pub legal : IsLegal z history
   pub state : State z words history
-  pub homes : (shard : ℕ) → shard < z.lanes → AreHome z shard words.link (words.stack shard) (home_in z history shard)
+  pub homes : (shard : ℕ) → shard < z.lanes → AreHome z shard words.link (words.stack shard) (lane_home z history shard)
   pub alone : (place owner : ℕ) → is_place z place ≡ true → (pool_after z history place).phase ≡ with owner → shard_of place ≡ owner
+  pub bits : (shard : ℕ) → shard < z.lanes → (row : ℕ) → words.bits shard row ≡ row_word shard row (guest_home z history shard)
   pub count : (length lanes ≡ z.lanes) × (length states ≡ z.lanes)
   pub all : (number : ℕ) → number < z.lanes → (index : ℕ) × (lane : LaneOf) × (slice_get lanes index ≡ Some lane) × (lane.number ≡ number)
   pub each : (index : ℕ) (lane : LaneOf) (state : LaneState T) → slice_get lanes index ≡ Some lane → slice_get states index ≡ Some state

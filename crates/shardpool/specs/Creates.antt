@@ -12,9 +12,9 @@ use Rattle.steplaws.specs.Calls.{Call, next_step, AreSteps}
 use Rattle.steplaws.specs.Calls.Call.{Creating}
 use Rattle.poolsteps.specs.Views.{the_lane}
 use Rattle.poolsteps.specs.Told.{IsIdle, Sees}
-use Rattle.shardpool.specs.Bounds.{most_create_steps, most_looks}
-use Rattle.shardpool.specs.Called.{caller_of, Make}
-use Rattle.shardpool.specs.Taken.{NoneHome, Collects, FollowsOut}
+use Rattle.seatcalls.specs.Bounds.{most_create_steps, most_looks}
+use Rattle.seatcalls.specs.Called.{caller_of, Make}
+use Rattle.seatcalls.specs.Taken.{NoneHome, Collects, FollowsOut}
 use Rattle.shardpool.specs.declared.create.CreateFault.{CreateFault}
 use Rattle.shardpool.specs.declared.create.CreateFault.TheVariants.{Full, Memory}
 use Rattle.shardpool.specs.Tokens.{LaneOf, FillingOf}

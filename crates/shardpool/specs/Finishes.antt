@@ -19,9 +19,9 @@ use Rattle.poolsteps.specs.Layout.{slot_start, shard_start, spots_at}
 use Rattle.poolsteps.specs.Told.{IsIdle, Leaves}
 use Rattle.steplaws.specs.StepLaws.{owed_after}
 use Rattle.steplaws.specs.declared.pending.Pending.TheVariants.{Undo}
-use Rattle.shardpool.specs.declared.reclaim.Reclaimed.{Reclaimed}
-use Rattle.shardpool.specs.declared.reclaim.Reclaimed.TheVariants.{Own}
-use Rattle.shardpool.specs.Called.{Ends, EndsWithActs, IsLawful, IsReclaimed}
+use Rattle.seatcalls.specs.declared.at.Reclaimed.{Reclaimed}
+use Rattle.seatcalls.specs.declared.at.Reclaimed.TheVariants.{Own}
+use Rattle.seatcalls.specs.Called.{Ends, EndsWithActs, IsLawful, IsReclaimed}
 use Rattle.shardpool.specs.Clears.{Clears}
 use Rattle.shardpool.specs.declared.pool.LaneState.{LaneState}
 use Rattle.shardpool.specs.Stores.{Keeps}

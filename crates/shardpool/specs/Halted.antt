@@ -12,8 +12,8 @@ use Rattle.poolsteps.specs.declared.view.View.{View}
 use Rattle.poolsteps.specs.Views.{the_lane}
 use Rattle.poolsteps.specs.Told.{Leaves}
 use Rattle.poolsteps.specs.Returned.{Follows}
-use Rattle.shardpool.specs.Acted.{Acted}
-use Rattle.shardpool.specs.Called.{caller_of, Make, Did, AreEnd}
+use Rattle.seatcalls.specs.Acted.{Acted}
+use Rattle.seatcalls.specs.Called.{caller_of, Make, Did, AreEnd}
 
 -- the lane made the first so many steps of a call, or all where it has no more: these steps, each by the step relation, the acts that they made, and nothing more
 pub record CalledWithin {S : Type 0} (z : Shape) (call : Call) (limit : ℕ) (before after : Me S View) : Type 0 where

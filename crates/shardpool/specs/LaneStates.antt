@@ -3,7 +3,7 @@ use Rattle.std.specs.Prelude.{◌≡◌, ◌≢◌, ◌==◌, ℕ, ◌<◌, ◌�
 use Rattle.keybits.specs.declared.shape.Shape.{Shape}
 use Rattle.keybits.specs.declared.place.Place.{Place}
 use Rattle.keybits.specs.Places.{shard_of, page_of, number_of}
-use Rattle.keybits.specs.Shapes.{IsShape, shard_places, is_place, index_of}
+use Rattle.keybits.specs.Shapes.{callers, IsShape, shard_places, is_place, index_of}
 use Rattle.keybits.specs.Keys.{place_of, generation_of, is_key}
 use Rattle.freelists.specs.Shards.{ShardPages, shape_of}
 use Rattle.freelists.specs.Queues.{FreePlaces}
@@ -22,8 +22,9 @@ use Rattle.poolsteps.specs.Objects.{ObjectsOf}
 use Rattle.shardpool.specs.HeldKeys.{HeldKey}
 use Rattle.shardpool.specs.declared.pool.LaneState.{LaneState}
 use Rattle.shardpool.specs.Rows.{AreStanding}
-use Rattle.shardpool.specs.Carried.{AreAtRest}
-use Rattle.shardpool.specs.Places.{IsBlank, IsResting, held_after, left_with, has_retired}
+use Rattle.seatcalls.specs.Carried.{AreAtRest}
+use Rattle.shardpool.specs.Places.{IsBlank, IsResting}
+use Rattle.seatcalls.specs.Left.{held_after, left_with, has_retired}
 
 -- the seat is that of one lane of the pool, which saw a legal history with just its own acts, in which owners alone publish, has nothing under way, and whose acts left it no place of another lane's shard
 pub record FitsSeat (z : Shape) (v : View) (number : ℕ) : Type 0 where
@@ -62,7 +63,7 @@ module _ {T : Type 0} (content : T → List ℕ) (room : T → ℕ) (z : Shape) 
   -- the share that the lane has under its references to the key of a place and a generation
   pub record IsHeld (v : View) (place generation : ℕ) (s : Share T) : Type 0 where
     pub number_is : s.number ≡ (the_lane v).lane
-    pub of_is : s.of ≡ z.lanes
+    pub of_is : s.of ≡ callers z
     pub emptied : status_of (the_lane v) place (the_lane v).lane ≡ Emptied
     pub known : known_of (the_lane v) place ≡ stored_of content room s
     pub shows : (key : ℕ) → is_key z key ≡ true → place_of key ≡ place → generation_of key ≡ generation

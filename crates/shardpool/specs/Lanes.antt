@@ -16,15 +16,20 @@ use Rattle.poolsteps.specs.Layout.{slot_start}
 use Rattle.poolsteps.specs.Views.{the_lane}
 use Rattle.poolsteps.specs.Told.{MayPublish, references_seen}
 use Rattle.poolsteps.specs.ViewLaws.{references_made}
-use Rattle.shardpool.specs.Bounds.{most_looks}
-use Rattle.shardpool.specs.Carried.{AreEmptied}
-use Rattle.shardpool.specs.Called.{Called}
+use Rattle.seatcalls.specs.Bounds.{most_looks}
+use Rattle.seatcalls.specs.Carried.{AreEmptied}
+use Rattle.seatcalls.specs.Called.{Called}
+use Rattle.seatcalls.specs.Visitors.{GuestOf}
 use Rattle.shardpool.specs.Tokens.{PoolOf, LaneOf, FillingOf, RefOf, NoteOf}
-use Rattle.shardpool.specs.Places.{held_after}
+use Rattle.seatcalls.specs.Left.{held_after}
 
 -- the lane is one of the pool
 abbrev pub Owns : PoolOf → LaneOf → Type 0
 Owns pool lane = (lane.table ≡ pool.table) × (lane.shape ≡ pool.shape) × (lane.directory ≡ pool.directory)
+
+-- the guest is one of the pool
+abbrev pub OwnsGuest : PoolOf → GuestOf → Type 0
+OwnsGuest pool guest = (guest.table ≡ pool.table) × (guest.shape ≡ pool.shape)
 
 -- the note is of the pool
 abbrev pub Issued : PoolOf → NoteOf → Type 0

@@ -12,7 +12,7 @@ use Rattle.poolsteps.specs.Share.{Share}
 use Rattle.poolsteps.specs.declared.view.View.{View}
 use Rattle.poolsteps.specs.Views.{the_lane, status_of}
 use Rattle.poolsteps.specs.Told.{IsIdle}
-use Rattle.shardpool.specs.Called.{Did, IsUnmoved}
+use Rattle.seatcalls.specs.Called.{Did, IsUnmoved}
 use Rattle.shardpool.specs.HeldKeys.{HeldKey}
 use Rattle.shardpool.specs.declared.pool.LaneState.{LaneState}
 

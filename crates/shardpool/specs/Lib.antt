@@ -1,10 +1,4 @@
-pub mod AtPlace
-pub mod Bounds
-pub mod Acted
-pub mod Called
 pub mod Clears
-pub mod Carried
-pub mod Taken
 pub mod Halted
 pub mod Tokens
 pub mod Places
@@ -19,11 +13,13 @@ pub mod Stores
 pub mod Finishes
 pub mod Handed
 pub mod Lendings
+pub mod FirstViews
 pub mod Opened
 pub mod Creates
 pub mod AfterCalls
 pub mod Loans
 pub mod Openings
+pub mod Gathers
 pub mod Halts
 pub mod Closings
 pub mod Marks

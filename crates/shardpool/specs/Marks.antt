@@ -1,12 +1,13 @@
 -- What the census does with the last words of a pool: it marks each free place, and counts what each place is.
-use Rattle.std.specs.Prelude.{◌≡◌, ◌≢◌, ◌==◌, ℕ, zero, suc, ◌<◌, true, nat_le, List, [], ◌∷◌, ◌++◌, map, length, Contains, Some, slice_get, slice_set, if◌then◌else◌}
+use Rattle.std.specs.Prelude.{◌≡◌, ◌≢◌, ◌==◌, ℕ, zero, suc, ◌+◌, ◌*◌, ◌/◌, ◌<◌, true, nat_le, min, List, [], ◌∷◌, ◌++◌, map, length, Contains, Some, slice_get, slice_set, if◌then◌else◌}
 use Rattle.core.specs.declared.slots.Slots.{Slots}
 use Rattle.core.specs.Mem.Slots.{slots_items, slots_len, slots_ptr, IsFull}
 use Rattle.keybits.specs.declared.shape.Shape.{Shape}
 use Rattle.keybits.specs.declared.place.Place.{Place}
 use Rattle.keybits.specs.declared.step.Word.TheVariants.{Life}
 use Rattle.keybits.specs.Places.{shard_of, page_of, number_of}
-use Rattle.keybits.specs.Shapes.{shard_places, is_place, index_of}
+use Rattle.keybits.specs.Shapes.{page_size, shard_places, is_place, index_of}
+use Rattle.keybits.specs.Rows.{set_places}
 use Rattle.keybits.specs.Counts.{times}
 use Rattle.keybits.specs.Words.{state_in}
 use Rattle.keybits.specs.Links.{Leads}
@@ -48,20 +49,45 @@ abbrev pub stacked : ℕ → (ℕ → List ℕ) → ℕ → List ℕ
 stacked shard threads zero = []
 stacked shard threads (suc lanes) = stacked shard threads lanes ++ (if lanes == shard then [] else threads lanes)
 
--- these are the free places of a shard, beside those of its own list: the taken chain, and the places on its stacks
-pub record AreFreePlaces (z : Shape) (words : List ℕ) (shard : ℕ) (free : FreePlaces) (chain : List ℕ) (threads : ℕ → List ℕ) : Type 0 where
+-- how many rows of bits the places of a page take
+abbrev pub rows_of_page : Shape → ℕ → ℕ
+rows_of_page z page = (page_size z page + 63) / 64
+
+-- the places of a shard whose bits are set in so many rows, from this one on
+abbrev pub row_given : ℕ → (ℕ → ℕ) → ℕ → ℕ → List ℕ
+row_given shard bits first zero = []
+row_given shard bits first (suc rows) = row_given shard bits first rows ++ set_places shard (first + rows) (bits (first + rows))
+
+-- and in the rows of so many pages
+abbrev pub pages_given : Shape → ℕ → (ℕ → ℕ) → ℕ → List ℕ
+pages_given z shard bits zero = []
+pages_given z shard bits (suc pages) = pages_given z shard bits pages ++ row_given shard bits (64 * pages) (rows_of_page z pages)
+
+-- each of these is a place of the shard
+abbrev pub ArePlacesOf : Shape → ℕ → List ℕ → Type 0
+ArePlacesOf z shard places = (place : ℕ) → 0 < times place places → (is_place z place ≡ true) × (shard_of place ≡ shard)
+
+-- these are the places of a shard that guests returned: those whose bits are set in the rows of opened pages
+pub record AreGiven (z : Shape) (words : List ℕ) (shard opened : ℕ) (given : List ℕ) : Type 0 where
+  pub list : given ≡ pages_given z shard ((words_in z words).bits shard) (min opened z.pages)
+  pub inside : ArePlacesOf z shard given
+
+-- these are the free places of a shard, beside those of its own list: the taken chain, the places on its stacks, and those that guests returned
+pub record AreFreePlaces (z : Shape) (words : List ℕ) (shard opened : ℕ) (free : FreePlaces) (chain : List ℕ) (threads : ℕ → List ℕ)
+    (given : List ℕ) : Type 0 where
   pub listed : (place : Place) → Contains free.own place → is_place z (number_of place) ≡ true
   pub first : IsFirst free.chain chain
   pub chained : (word : ℕ) × IsThread z words shard word chain
   pub returned : AreThreads z words shard threads
+  pub given_are : AreGiven z words shard opened given
 
--- the places of a shard that were returned: those of its taken chain, and those on its stacks
-abbrev pub returned_places : Shape → ℕ → List ℕ → (ℕ → List ℕ) → List ℕ
-returned_places z shard chain threads = chain ++ stacked shard threads z.lanes
+-- the places of a shard that were returned: those of its taken chain, those on its stacks, and those that guests returned
+abbrev pub returned_places : Shape → ℕ → List ℕ → (ℕ → List ℕ) → List ℕ → List ℕ
+returned_places z shard chain threads given = (chain ++ stacked shard threads z.lanes) ++ given
 
 -- all free places of a shard
-abbrev pub free_places : Shape → ℕ → FreePlaces → List ℕ → (ℕ → List ℕ) → List ℕ
-free_places z shard free chain threads = returned_places z shard chain threads ++ map number_of free.own
+abbrev pub free_places : Shape → ℕ → FreePlaces → List ℕ → (ℕ → List ℕ) → List ℕ → List ℕ
+free_places z shard free chain threads given = returned_places z shard chain threads given ++ map number_of free.own
 
 -- what a place is by these state bits, where it is of an opened page and not free
 abbrev pub part_by : ℕ → Part

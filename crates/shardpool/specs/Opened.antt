@@ -1,31 +1,30 @@
 -- What a pool is when it is opened.
-use Rattle.std.specs.Prelude.{◌≡◌, ℕ, false, List, [], ◌∷◌, length, replicate, Some, None, slice_get}
+use Rattle.std.specs.Prelude.{◌≡◌, ℕ, ◌+◌, ◌<◌, false, List, [], length, replicate, Option, Some, None, slice_get}
+use Rattle.atomic_table.specs.declared.shared.Seat.{Seat}
 use Rattle.keybits.specs.ShapeFaults.{shape_fault_number}
 use Rattle.poolsteps.specs.declared.view.View.{View}
-use Rattle.poolsteps.specs.Views.{first_record}
 use denote.RawPtr.{Ptr}
 use Rattle.keybits.specs.declared.shape.Shape.{Shape as PoolShape}
-use Rattle.keybits.specs.Shapes.{shard_places}
+use Rattle.keybits.specs.Shapes.{shard_places, callers}
 use Rattle.freelists.specs.Shards.{shape_of}
 use Rattle.slotcell.specs.declared.objects.Clear.{Ghosts}
 use Rattle.poolsteps.specs.declared.grid.Grid.{Grid}
+use Rattle.poolsteps.specs.Share.{Share}
 use Rattle.poolsteps.specs.Grids.{IsFirstHand}
+use Rattle.seatcalls.specs.Visitors.{GuestOf}
 use Rattle.poolsteps.specs.Layout.{slot_row, shard_start}
 use Rattle.shardpool.specs.declared.pool.LaneState.{LaneState}
 use Rattle.shardpool.specs.declared.opening.Unendowed.{Unendowed}
 use Rattle.shardpool.specs.declared.fault.OpenFault.{OpenFault}
 use Rattle.shardpool.specs.declared.fault.OpenFault.TheVariants.{Shape, Memory}
-use Rattle.shardpool.specs.Tokens.{PoolOf, LaneOf}
+pub use Rattle.shardpool.specs.FirstViews.{first_book}
+use Rattle.shardpool.specs.Tokens.{PoolOf, LaneOf, GuestsOf}
 use Rattle.shardpool.specs.Lanes.{Owns}
 
 -- the number of a fault: that of the shape's fault, and 5 for want of memory
 abbrev pub open_fault_number : OpenFault → ℕ
 open_fault_number (Shape fault) = shape_fault_number fault
 open_fault_number Memory = 5
-
--- the view of a lane that has seen and done nothing
-abbrev pub first_book : ℕ → View
-first_book lane = record { lanes = first_record lane ∷ []; seen = []; rooms = []; told = []; steps = 0; looks = 0 }
 
 -- the lane of this number of the pool, which has seen and done nothing: it has no free place, and no page is opened
 pub record IsFirstLane (pool : PoolOf) (number : ℕ) (lane : LaneOf) : Type 0 where
@@ -41,7 +40,25 @@ pub record AreFirstLanes (pool : PoolOf) (lanes : List LaneOf) : Type 0 where
   pub count : length lanes ≡ pool.shape.lanes
   pub each : (number : ℕ) (lane : LaneOf) → slice_get lanes number ≡ Some lane → IsFirstLane pool number lane
 
+-- these are the guests of the pool, none of which was dealt
+abbrev pub AreFirstGuests : PoolOf → GuestsOf → Type 0
+AreFirstGuests pool guests = guests ≡ record { table = pool.table; shape = pool.shape; next = pool.shape.lanes }
+
+-- the guest of this number of the pool, before its first step
+abbrev pub IsFirstGuest : GuestsOf → ℕ → GuestOf → Type 0
+IsFirstGuest guests number guest = guest ≡ record { table = guests.table; shape = guests.shape; number = number; book = first_book number }
+
+-- the next guest was dealt, or all were
+abbrev pub Deals : GuestsOf → GuestsOf → Option GuestOf → Type 0
+Deals old new None = (old.next ≡ callers old.shape) × (new ≡ old)
+Deals old new (Some guest) = (old.next < callers old.shape) × IsFirstGuest old old.next guest × (new ≡ record old { next = old.next + 1 })
+
 -- ---- the parts of an open
+
+-- these are the hands of the table's callers from this number on, by rising number, before their first steps
+pub record AreFurtherHands {T : Type 0} (grid : Grid T) (first : ℕ) (hands : List (Seat (Option (Share T)) View)) : Type 0 where
+  pub count : first + length hands ≡ callers grid.shape
+  pub each : (index : ℕ) (hand : Seat (Option (Share T)) View) → slice_get hands index ≡ Some hand → IsFirstHand grid (first + index) hand
 
 -- what the lane of this number keeps before it has a right to a place
 pub record IsFirstState {T : Type 0} (z : PoolShape) (directory : Ptr) (number : ℕ) (s : LaneState T) : Type 0 where

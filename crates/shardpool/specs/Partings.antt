@@ -1,11 +1,14 @@
 -- The hands of lanes, and what they keep.
-use Rattle.std.specs.Prelude.{◌≡◌, ℕ, List, [], length, Option, Some, slice_get}
+use Rattle.std.specs.Prelude.{◌≡◌, ℕ, ◌+◌, List, [], length, Option, Some, slice_get}
 use Rattle.atomic_table.specs.declared.shared.Seat.{Seat}
 use Rattle.freelists.specs.Queues.{AreFree}
 use Rattle.poolsteps.specs.Share.{Share}
 use Rattle.poolsteps.specs.declared.view.View.{View}
 use Rattle.shardpool.specs.declared.pool.LaneState.{LaneState}
-use Rattle.shardpool.specs.Tokens.{LaneOf}
+use Rattle.seatcalls.specs.Visitors.{GuestOf, IsFree}
+use Rattle.keybits.specs.Shapes.{callers}
+use Rattle.shardpool.specs.FirstViews.{first_book}
+use Rattle.shardpool.specs.Tokens.{LaneOf, GuestsOf}
 use Rattle.shardpool.specs.LaneStates.{Fits}
 
 module _ {T : Type 0} (content : T → List ℕ) (room : T → ℕ) where
@@ -29,3 +32,15 @@ module _ {T : Type 0} (content : T → List ℕ) (room : T → ℕ) where
     pub count : (length hands ≡ length lanes) × (length states ≡ length lanes)
     pub each : (index : ℕ) (lane : LaneOf) (hand : Seat (Option (Share T)) View) (state : LaneState T) → slice_get lanes index ≡ Some lane
         → slice_get hands index ≡ Some hand → slice_get states index ≡ Some state → IsParted lane hand state
+
+-- these are the hands of guests that are back, one after another
+pub record AreHandsOf {T : Type 0} (guests : List GuestOf) (hands : List (Seat (Option (Share T)) View)) : Type 0 where
+  pub count : length hands ≡ length guests
+  pub each : (index : ℕ) (guest : GuestOf) (hand : Seat (Option (Share T)) View) → slice_get guests index ≡ Some guest
+      → slice_get hands index ≡ Some hand → (hand.table_id ≡ guest.table) × (hand.me ≡ (guest.book, [])) × IsFree guest
+
+-- and these are the hands of guests that were never dealt
+pub record AreUndealtHands {T : Type 0} (guests : GuestsOf) (hands : List (Seat (Option (Share T)) View)) : Type 0 where
+  pub count : guests.next + length hands ≡ callers guests.shape
+  pub each : (index : ℕ) (hand : Seat (Option (Share T)) View) → slice_get hands index ≡ Some hand → (hand.table_id ≡ guests.table)
+      × (hand.me ≡ (first_book (guests.next + index), []))

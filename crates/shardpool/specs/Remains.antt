@@ -4,7 +4,7 @@ use Rattle.core.specs.declared.slots.Slots.{Slots}
 use Rattle.core.specs.Mem.Slots.{slots_items, slots_len, slots_ptr, IsFull}
 use Rattle.keybits.specs.declared.shape.Shape.{Shape}
 use Rattle.keybits.specs.Places.{shard_of}
-use Rattle.keybits.specs.Shapes.{is_place, position_of}
+use Rattle.keybits.specs.Shapes.{callers, is_place, position_of}
 use Rattle.seqpool.specs.declared.act.Act.{Act}
 use Rattle.seqpool.specs.Pool.{published, home, retired, has, pool_after}
 use Rattle.poolsteps.specs.Share.{Share}
@@ -106,6 +106,6 @@ module _ {T : Type 0} where
   pub record DrainsShard (z : Shape) (shard : ℕ) (life : ℕ → ℕ) (old new : Slots (Option (Share T))) : Type 0 where
     pub row : IsSlotRow z new
     pub start : slots_ptr new ≡ slots_ptr old
-    pub kept : (place lane : ℕ) → is_place z place ≡ true → lane < z.lanes → shard_of place ≢ shard
+    pub kept : (place lane : ℕ) → is_place z place ≡ true → lane < callers z → shard_of place ≢ shard
         → slice_get (slots_items new) (slot_index z place lane) ≡ slice_get (slots_items old) (slot_index z place lane)
     pub gone : (place : ℕ) → is_place z place ≡ true → shard_of place ≡ shard → HasNoCell z (slots_items new) place (life place)

@@ -9,8 +9,8 @@ use Rattle.freelists.specs.Shards.{IsOwn, place_numbered}
 use Rattle.freelists.specs.Queues.{AreFree, IsAway}
 use Rattle.poolsteps.specs.Objects.{ObjectsOf}
 use Rattle.poolsteps.specs.Layout.{shard_start}
-use Rattle.shardpool.specs.declared.reclaim.Reclaimed.{Reclaimed}
-use Rattle.shardpool.specs.declared.reclaim.Reclaimed.TheVariants.{Own, Returned, Retired}
+use Rattle.seatcalls.specs.declared.at.Reclaimed.{Reclaimed}
+use Rattle.seatcalls.specs.declared.at.Reclaimed.TheVariants.{Own, Returned, Retired}
 use Rattle.shardpool.specs.declared.pool.LaneState.{LaneState}
 
 -- these are rows of one directory, from the same word on

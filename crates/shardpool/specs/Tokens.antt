@@ -24,6 +24,12 @@ pub record LaneOf : Type 0 where
   pub free : FreePlaces
   pub pages : ShardPages
 
+-- the guests of a pool that were not dealt yet: the table and the shape of the pool, and the number of the next one
+pub record GuestsOf : Type 0 where
+  pub table : TableId
+  pub shape : Shape
+  pub next : ℕ
+
 -- a place to be filled: the table of its pool, where the directory of the pool's objects begins, its key, where the key's place stands, and its object
 pub record FillingOf (T : Type 0) : Type 0 where
   pub table : TableId

@@ -6,21 +6,24 @@ ghost use Rattle.keybits.specs.declared.place.Place.{Place as Shown};
 ghost use Rattle.keybits.specs.Places.{shard_of, page_of, number_of};
 ghost use Rattle.keybits.specs.Shapes.{IsShape, is_place, page_start, shard_places, all_places};
 ghost use Rattle.freelists.specs.Queues.{AreFree};
-ghost use Rattle.poolsteps.specs.Layout.{word_count, words_in, spots_at};
+ghost use Rattle.keybits.specs.Rows.{set_places};
+ghost use Rattle.poolsteps.specs.Layout.{row_count, word_count, words_in, spots_at};
 ghost use Rattle.poolsteps.specs.Joins.{IsSlotRow, HasCell};
 ghost use Rattle.shardpool.specs.Remains.{HasCells, IsDrained, DrainsShard};
 ghost use Rattle.shardpool.specs.Stores.{AreOfShard};
 ghost use Rattle.seqpool.specs.declared.act.Act.{Act};
 ghost use Rattle.shardpool.specs.Tokens.{LaneOf};
 ghost use Rattle.shardpool.specs.Closings.{none_counted, counted, places_counted, IsCensus, AreLast};
-ghost use Rattle.shardpool.specs.Marks.{IsRow, Blanks, IsThread, AreThreads, stacked, AreFreePlaces, returned_places, part_by_word, IsIdleWord, Counts};
+ghost use Rattle.shardpool.specs.Marks.{IsRow, Blanks, IsThread, AreThreads, stacked, row_given, ArePlacesOf, AreGiven, AreFreePlaces, returned_places, part_by_word, IsIdleWord, Counts};
 
+use crate::bits::{ROW_PLACES, next_place};
 use crate::pool::LaneState;
 use core::slots::Slots;
 use freelists::LocalFree;
 use keybits::{Life, Shape, State, link_to, linked_place};
 use poolsteps::{
-    Base, Objects, Slot, life_at, life_word, link_word, out_cell, shard_start, stack_word,
+    Base, Objects, Slot, bits_word, life_at, life_word, link_word, out_cell, shard_start,
+    stack_word,
 };
 use std::alloc::Global;
 
@@ -115,7 +118,7 @@ pub(crate) fn take_census<T: Drop>(
     let mut census = Census::none();
     for mut state in states {
         let opened = state.pages.opened();
-        mark_returned(shape, state.number, &state.free, words);
+        mark_returned(shape, state.number, opened, &state.free, words);
         out_cells(
             directory,
             shape,
@@ -140,20 +143,23 @@ fn rights_of<T: Drop>(state: LaneState<T>) -> Objects<T>
     objects
 }
 
-/// The places of a shard that were returned are marked: those of its taken chain, and those on its stacks.
-fn mark_returned(shape: &Shape, shard: u32, free: &LocalFree, words: &mut Slots<u64>)
+/// The places of a shard that were returned are marked: those of its taken chain, those on its stacks, and those that
+/// guests returned. So many pages are opened.
+fn mark_returned(shape: &Shape, shard: u32, opened: u32, free: &LocalFree, words: &mut Slots<u64>)
     requires shape { IsShape shape.now }
     requires shard { shard < shape.now.lanes }
     requires row { IsRow shape.now words.old }
-    requires free { (chain : List ℕ) × (threads : ℕ → List ℕ)
-        × AreFreePlaces shape.now (slots_items words.old) shard free.now chain threads }
-    ensures { (chain : List ℕ) (threads : ℕ → List ℕ) → AreFreePlaces shape.now (slots_items words.old) shard free.now chain threads
-        → Blanks shape.now (returned_places shape.now shard chain threads) words.old words.new }
+    requires free { (chain : List ℕ) × (threads : ℕ → List ℕ) × (given : List ℕ)
+        × AreFreePlaces shape.now (slots_items words.old) shard opened free.now chain threads given }
+    ensures { (chain : List ℕ) (threads : ℕ → List ℕ) (given : List ℕ)
+        → AreFreePlaces shape.now (slots_items words.old) shard opened free.now chain threads given
+        → Blanks shape.now (returned_places shape.now shard chain threads given) words.old words.new }
 {
     if let Some(first) = free.chain() {
         mark_thread(shape, shard, link_to(first.number()), words);
     }
     mark_stacks(shape, shard, words);
+    mark_given(shape, shard, opened, words);
 }
 
 /// The places of a lane's own list are marked, which then is empty.
@@ -184,6 +190,51 @@ fn mark_stacks(shape: &Shape, shard: u32, words: &mut Slots<u64>)
             let word = *words.get(stack_word(shape, shard, lane));
             mark_thread(shape, shard, word, words);
         }
+    }
+}
+
+/// The places of a shard that guests returned are marked. So many pages are opened.
+fn mark_given(shape: &Shape, shard: u32, opened: u32, words: &mut Slots<u64>)
+    requires shape { IsShape shape.now }
+    requires shard { shard < shape.now.lanes }
+    requires row { IsRow shape.now words.old }
+    requires given { (given : List ℕ) × AreGiven shape.now (slots_items words.old) shard opened given }
+    ensures { (given : List ℕ) → AreGiven shape.now (slots_items words.old) shard opened given
+        → Blanks shape.now given words.old words.new }
+{
+    for page in 0..opened.min(shape.pages) {
+        let rows = (shape.page_size(page) + ROW_PLACES - 1) / ROW_PLACES;
+        mark_rows(shape, shard, 64 * page, rows, words);
+    }
+}
+
+/// The places of a shard are marked whose bits are set in so many rows, from this one on.
+fn mark_rows(shape: &Shape, shard: u32, first: u32, rows: u32, words: &mut Slots<u64>)
+    requires shape { IsShape shape.now }
+    requires shard { shard < shape.now.lanes }
+    requires rows { first + rows ≤ row_count shape.now }
+    requires row { IsRow shape.now words.old }
+    requires places { ArePlacesOf shape.now shard (row_given shard ((words_in shape.now (slots_items words.old)).bits shard) first rows) }
+    ensures { Blanks shape.now (row_given shard ((words_in shape.now (slots_items words.old)).bits shard) first rows) words.old words.new }
+{
+    for row in 0..rows {
+        let word = *words.get(bits_word(shape, shard, first + row));
+        mark_row(shape, shard, first + row, word, words);
+    }
+}
+
+/// The places of a row of a shard are marked whose bits are set in this word.
+fn mark_row(shape: &Shape, shard: u32, row: u32, mut word: u64, words: &mut Slots<u64>)
+    requires shape { IsShape shape.now }
+    requires shard { shard < shape.now.lanes }
+    requires number { row < row_count shape.now }
+    requires row { IsRow shape.now words.old }
+    requires places { ArePlacesOf shape.now shard (set_places shard row word) }
+    ensures { Blanks shape.now (set_places shard row word) words.old words.new }
+{
+    while word != 0 {
+        let place = next_place(shard, row, &mut word);
+        mark(shape, place, words);
     }
 }
 

@@ -7,20 +7,20 @@ ghost use Rattle.poolsteps.specs.Layout.{spots_at};
 ghost use Rattle.poolsteps.specs.Views.{the_lane, IsOne};
 ghost use Rattle.poolsteps.specs.Grids.{IsSpot, IsOf, SameSeat};
 ghost use Rattle.poolsteps.specs.AtOnce.{unreferred};
-ghost use Rattle.shardpool.specs.AtPlace.{MayCall};
-ghost use Rattle.shardpool.specs.Bounds.{most_call_looks};
-ghost use Rattle.shardpool.specs.Called.{MarksAtLast};
+ghost use Rattle.seatcalls.specs.AtPlace.{MayCall};
+ghost use Rattle.seatcalls.specs.Bounds.{most_call_looks};
+ghost use Rattle.seatcalls.specs.Called.{MarksAtLast};
 ghost use Rattle.shardpool.specs.Clears.{Clears, LooksTwice};
 ghost use Rattle.shardpool.specs.Finishes.{MayClearAndKeep, ClearsAndKeeps};
 ghost use Rattle.shardpool.specs.Lanes.{Owns};
 ghost use Rattle.shardpool.specs.AfterCalls.{AfterClear};
 ghost use Rattle.shardpool.specs.Handed.{HandsOut};
 
-use crate::emptier::{Emptier, InPlace};
 use crate::pool::{Lane, LaneState, Pool};
-use crate::reclaim::{At, Reclaimed, finish_leave, keep_reclaimed, reclaim_place};
+use crate::reclaim::{finish_leave, keep_reclaimed, reclaim_place};
 use keybits::{Life, ONE_COUNT, State, generation_of, is_hit, is_present, owes_claim, place_of};
 use poolsteps::{Grid, Hand, Purpose, Spot};
+use seatcalls::{At, Emptier, InPlace, Reclaimed};
 use slotcell::Clear;
 
 impl<T: Clear + Drop> Pool<T> {

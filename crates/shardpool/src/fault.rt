@@ -1,6 +1,7 @@
 //! Why no pool is opened.
 ghost use Rattle.std.specs.Prelude.{◌≡◌};
 ghost use Rattle.shardpool.specs.declared.fault.OpenFault.TheVariants as faults;
+ghost use Rattle.shardpool.specs.declared.fault.GuestsFault.TheVariants as guest_faults;
 
 use keybits::ShapeFault;
 use std::error::Error;
@@ -45,5 +46,36 @@ impl From<ShapeFault> for OpenFault {
 
     fn from(fault: ShapeFault) -> OpenFault {
         OpenFault::Shape(fault)
+    }
+}
+
+/// Why no pool with guests is opened. Nothing is left of it then.
+#[derive(Clone, Copy, Debug, PartialEq, Eq)]
+pub enum GuestsFault {
+    /// The shape has more than 2^28 guests.
+    Guests,
+    /// The shape is outside its limits.
+    Shape(ShapeFault),
+    /// Memory was refused.
+    Memory,
+}
+
+impl fmt::Display for GuestsFault {
+    fn fmt<W: fmt::Write>(&self, f: &mut fmt::Formatter<W>) -> fmt::Result {
+        match self {
+            GuestsFault::Guests => f.write_str("there are more than 268435456 guests"),
+            GuestsFault::Shape(fault) => write!(f, "{fault}"),
+            GuestsFault::Memory => f.write_str("no memory was left"),
+        }
+    }
+}
+
+impl Error for GuestsFault {}
+
+impl From<ShapeFault> for GuestsFault {
+    ghost from_gives = { λ fault gives. gives ≡ guest_faults.Shape fault };
+
+    fn from(fault: ShapeFault) -> GuestsFault {
+        GuestsFault::Shape(fault)
     }
 }

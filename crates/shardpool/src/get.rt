@@ -15,11 +15,11 @@ ghost use Rattle.shardpool.specs.Finishes.{MayMiss, Misses};
 ghost use Rattle.shardpool.specs.Handed.{HandsOut};
 ghost use Rattle.seqpool.specs.Histories.{PublishedAt};
 
-use crate::emptier::{Emptier, InPlace};
 use crate::pool::{HeldKey, Lane, LaneState, Places, Pool};
 use crate::reclaim::finish_if_owed;
 use keybits::{generation_of, is_hit, place_of};
 use poolsteps::{Grid, Hand, Purpose, Share, Slot, Spot, Tally, shares_law};
+use seatcalls::{Emptier, InPlace};
 use slotcell::Clear;
 use std::marker::{Model, PhantomData};
 use std::mem;

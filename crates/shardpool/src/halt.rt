@@ -15,16 +15,15 @@ ghost use Rattle.steplaws.specs.declared.pending.Pending.TheVariants.{Returns};
 ghost use Rattle.steplaws.specs.StepLaws.{owed_after};
 ghost use Rattle.poolsteps.specs.Grids.{IsSpot, IsOf, SameSeat};
 ghost use Rattle.poolsteps.specs.Returned.{IsAtRest, rest_of};
-ghost use Rattle.shardpool.specs.AtPlace.{IsAt, MayAct, MayCall};
-ghost use Rattle.shardpool.specs.Called.{IsLawful};
+ghost use Rattle.seatcalls.specs.AtPlace.{IsAt, MayAct, MayCall};
+ghost use Rattle.seatcalls.specs.Called.{IsLawful};
 
-use crate::cell_moves::{rest_cell, take_cell};
 use crate::get::Ref;
 use crate::pool::{Lane, LaneState, Pool};
-use crate::reclaim::{At, owed_by};
 use crate::release::return_last_share;
 use keybits::{claimable, is_hit, linked_place, place_of, shard_of};
 use poolsteps::{Grid, Hand, Purpose, Spot, shares_law};
+use seatcalls::{At, owed_by, rest_cell, take_cell};
 use slotcell::Clear;
 use std::marker::Model;
 use steplaws::home_law;
@@ -264,6 +263,7 @@ pub(crate) fn collect_within<T: Clear>(grid: &Grid<T>, hand: &mut Hand<T>, lane:
 pub(crate) fn follow_within<T: Clear>(grid: &Grid<T>, hand: &mut Hand<T>, spot: Spot, limit: u32)
     requires hand { IsOf grid.now hand.old × IsOne hand.old.me.0 }
     requires spot { IsSpot grid.now.shape spot spot.place }
+    requires lane { (the_lane hand.old.me.0).lane < grid.now.shape.lanes }
     requires chain { (the_lane hand.old.me.0).chain ≡ spot.place ∷ rest_of (the_lane hand.old.me.0).chain }
     requires seen { IsLawful grid.now.shape hand.old.me.0 }
     ensures hand { SameSeat hand.old hand.new }

@@ -10,6 +10,7 @@ use slotcell::Clear;
 pub const MOST_REFERENCES: u32 = 1_048_575;
 
 impl<T: Clear> Lane<T> {
+    ghost use Rattle.keybits.specs.Shapes.{callers};
     ghost use Rattle.std.specs.Prelude.{◌≡◌, ◌≢◌, ◌<◌, ◌≤◌, ◌⊎◌, ◌↔◌, ℕ, true, false, IsTrue, IsNone, IsSome, IfSome, [], length, Contains};
     ghost use Rattle.keybits.specs.declared.place.Place.{Place};
     ghost use Rattle.keybits.specs.Places.{shard_of, page_of, number_of};
@@ -84,8 +85,8 @@ impl<T: Clear> Lane<T> {
         ensures number { ((the_lane self.now.book).lane ≡ self.now.number) × (self.now.number < self.now.shape.lanes) }
         ensures idle { IsIdle self.now.book }
         ensures rooms { length self.now.book.rooms ≡ length self.now.book.seen }
-        ensures alone { self.now.shape.lanes ≡ 1 → self.now.book.seen ≡ (the_lane self.now.book).mine }
-        ensures held { self.now.shape.lanes ≡ 1 → AreHeld self.now }
+        ensures alone { callers self.now.shape ≡ 1 → self.now.book.seen ≡ (the_lane self.now.book).mine }
+        ensures held { callers self.now.shape ≡ 1 → AreHeld self.now }
     {
         // A proof knows the invariant of a lane once a field of it is seen.
         let _ = &self.state;

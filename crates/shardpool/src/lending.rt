@@ -3,13 +3,13 @@ ghost use Rattle.std.specs.Prelude.{◌≡◌, ◌≢◌, ◌+◌, ◌-◌, ◌<
 ghost use Rattle.steplaws.specs.Facts.{most_references};
 
 use crate::closing::HandRow;
-use crate::emptier::InPlace;
 use crate::get::end_miss;
 use crate::notes::Note;
 use crate::pool::{Apart, Lane, LaneState, Pool};
 use crate::reclaim::finish_if_owed;
 use keybits::{is_hit, place_of};
 use poolsteps::{Base, Hand, Purpose, Slot, Spot, shares_law};
+use seatcalls::InPlace;
 use slotcell::Clear;
 use std::alloc::Global;
 use std::marker::Model;

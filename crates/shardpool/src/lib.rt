@@ -3,14 +3,16 @@
 //! `clear`, `halt`; what two of them do at their end is in `reclaim`.
 #![tactic(auto)]
 
-mod cell_moves;
+mod bits;
 mod census;
 mod clear;
 mod closing;
 mod create;
-mod emptier;
 mod fault;
+mod gather;
 mod get;
+mod guest_calls;
+mod guests;
 mod halt;
 mod lane;
 mod laws;
@@ -25,15 +27,16 @@ mod returned_shares;
 mod stores;
 
 pub use census::{Census, Part};
-pub use closing::close;
+pub use closing::{close, close_with_guests};
 pub use create::{CreateFault, Filling};
-pub use emptier::{Emptier, InPlace};
-pub use fault::OpenFault;
+pub use fault::{GuestsFault, OpenFault};
 pub use get::Ref;
+pub use guests::Guests;
 pub use halt::{Halted, LastCall};
 pub use lane::MOST_REFERENCES;
 pub use laws::{parts_law, room_law};
 pub use lending::{LendingLane, Loan};
 pub use notes::Note;
-pub use opening::{open, open_wide};
+pub use opening::{open, open_wide, open_with_guests};
 pub use pool::{Lane, Pool};
+pub use seatcalls::{Claimed, Emptier, Ended, Guest, GuestRef, InPlace};

@@ -1,21 +1,27 @@
 //! How a pool is opened.
-ghost use Rattle.std.specs.Prelude.{◌≡◌, ◌<◌, ◌≤◌, ◌↔◌, [], None, replicate, IfOk, IfSome, IsErrOf};
+ghost use Rattle.std.specs.Prelude.{◌≡◌, ◌<◌, ◌≤◌, ◌↔◌, [], None, length, replicate, IfOk, IfSome, IsErrOf};
 ghost use Rattle.keybits.specs.declared.shape.ShapeFault.{ShapeFault as Fault};
+ghost use Rattle.keybits.specs.declared.shape.TheConstants.{MOST_GUESTS};
 ghost use Rattle.keybits.specs.Shapes.{IsShape, IsNarrow};
 ghost use Rattle.keybits.specs.ShapeFaults.{IsFirstFault, IsFirstWideFault};
 ghost use Rattle.shardpool.specs.declared.fault.OpenFault.TheVariants as faults;
+ghost use Rattle.shardpool.specs.declared.fault.GuestsFault.TheVariants as guest_faults;
 ghost use Rattle.std.specs.Vec.{vec_capacity};
+ghost use Rattle.std.specs.Vec.Iter.{into_iter_items, into_iter_len};
 ghost use Rattle.poolsteps.specs.Layout.{slot_row};
-ghost use Rattle.shardpool.specs.Opened.{first_book, AreFirstLanes, AreFirstParts, IsFirstState};
+ghost use Rattle.shardpool.specs.Opened.{first_book, AreFirstLanes, AreFirstGuests, AreFurtherHands, AreFirstParts, IsFirstState};
 
 use crate::closing::HandRow;
-use crate::fault::OpenFault;
+use crate::fault::{GuestsFault, OpenFault};
+use crate::guests::Guests;
 use crate::pool::{Apart, HeldKey, Lane, LaneState, Places, Pool};
 use freelists::{LocalFree, Pages};
-use keybits::Shape;
+use keybits::{MOST_GUESTS, Shape};
 use poolsteps::{Base, Directory, Grid, Hand, Objects, shard_start, slot_row};
 use slotcell::Clear;
 use std::alloc::Global;
+use std::snapshot::Snapshot;
+use std::vec::IntoIter;
 
 /// Opens a pool of this shape, which is within the narrow limits. Its lanes stand by rising number; none has a free place
 /// yet, and no page is opened.
@@ -27,13 +33,15 @@ pub fn open<T: Clear + Drop>(
     alloc: Global,
     shape: Shape,
 ) -> Result<(Pool<T>, Vec<Lane<T>>), OpenFault>
+    requires { shape.guests ≡ 0 }
     ensures faults { (fault : Fault) → IsErrOf result (faults.Shape fault) ↔ IsFirstFault shape fault }
     ensures memory { IsErrOf result faults.Memory → IsNarrow shape }
     ensures pool { IfOk result (λ made. made.0.shape ≡ shape) }
     ensures lanes { IfOk result (λ made. AreFirstLanes made.0 made.1.items) }
 {
     shape.check()?;
-    try_open(alloc, shape).ok_or(OpenFault::Memory)
+    let (pool, lanes, _) = try_open(alloc, shape).ok_or(OpenFault::Memory)?;
+    Ok((pool, lanes))
 }
 
 /// Opens a pool of this shape as `open` does, by the wide limits.
@@ -45,13 +53,41 @@ pub fn open_wide<T: Clear + Drop>(
     alloc: Global,
     shape: Shape,
 ) -> Result<(Pool<T>, Vec<Lane<T>>), OpenFault>
+    requires { shape.guests ≡ 0 }
     ensures faults { (fault : Fault) → IsErrOf result (faults.Shape fault) ↔ IsFirstWideFault shape fault }
     ensures memory { IsErrOf result faults.Memory → IsShape shape }
     ensures pool { IfOk result (λ made. made.0.shape ≡ shape) }
     ensures lanes { IfOk result (λ made. AreFirstLanes made.0 made.1.items) }
 {
     shape.check_wide()?;
-    try_open(alloc, shape).ok_or(OpenFault::Memory)
+    let (pool, lanes, _) = try_open(alloc, shape).ok_or(OpenFault::Memory)?;
+    Ok((pool, lanes))
+}
+
+/// Opens a pool of this shape with its guests, by the wide limits. Its lanes stand by rising number; none has a free place
+/// yet, no page is opened, and no guest is dealt. Many guests take no more memory than none.
+///
+/// # Errors
+///
+/// More than 2^28 guests; behind that the first fault of the shape, by the wide limits; and the want of memory, for a shape
+/// within its limits alone.
+pub fn open_with_guests<T: Clear + Drop>(
+    alloc: Global,
+    shape: Shape,
+) -> Result<(Pool<T>, Vec<Lane<T>>, Guests<T>), GuestsFault>
+    ensures guests { IsErrOf result guest_faults.Guests ↔ (MOST_GUESTS < shape.guests) }
+    ensures faults { (fault : Fault)
+        → IsErrOf result (guest_faults.Shape fault) ↔ (shape.guests ≤ MOST_GUESTS) × IsFirstWideFault shape fault }
+    ensures memory { IsErrOf result guest_faults.Memory → IsShape shape }
+    ensures pool { IfOk result (λ made. made.0.shape ≡ shape) }
+    ensures lanes { IfOk result (λ made. AreFirstLanes made.0 made.1.items) }
+    ensures undealt { IfOk result (λ made. AreFirstGuests made.0 made.2) }
+{
+    if shape.guests > MOST_GUESTS {
+        return Err(GuestsFault::Guests);
+    }
+    shape.check_wide()?;
+    try_open(alloc, shape).ok_or(GuestsFault::Memory)
 }
 
 /// A lane that has no right to a place yet.
@@ -62,22 +98,31 @@ struct Unendowed<T: Clear> {
     row: HandRow<T>,
 }
 
-/// The pool of a shape within its limits, and its lanes. None where memory was refused.
-fn try_open<T: Clear + Drop>(alloc: Global, shape: Shape) -> Option<(Pool<T>, Vec<Lane<T>>)>
-    requires { IsShape shape }
+/// The pool of a shape within its limits, its lanes and its guests. None where memory was refused.
+fn try_open<T: Clear + Drop>(
+    alloc: Global,
+    shape: Shape,
+) -> Option<(Pool<T>, Vec<Lane<T>>, Guests<T>)>
+    requires shape { IsShape shape }
     ensures pool { IfSome result (λ made. made.0.shape ≡ shape) }
     ensures lanes { IfSome result (λ made. AreFirstLanes made.0 made.1.items) }
+    ensures guests { IfSome result (λ made. AreFirstGuests made.0 made.2) }
 {
     let count = shape.lanes as usize;
     let lanes = Vec::with_capacity(alloc, count).ok()?;
     let states = Vec::with_capacity(alloc, count).ok()?;
     let rights = Vec::with_capacity(alloc, count).ok()?;
     let mut directory = Directory::new(alloc, slot_row(&shape))?;
-    let Some((grid, parts)) = parts_of(alloc, &shape, directory.base()) else {
+    let Some((grid, parts, hands)) = parts_of(alloc, &shape, directory.base()) else {
         directory.close(alloc);
         return None;
     };
     let lanes = endow(&grid, lanes, parts, &mut directory);
+    let guests = Guests {
+        hands,
+        next: shape.lanes,
+        grid: Snapshot::of(&grid),
+    };
     let pool = Pool {
         grid,
         directory,
@@ -85,27 +130,32 @@ fn try_open<T: Clear + Drop>(alloc: Global, shape: Shape) -> Option<(Pool<T>, Ve
         rights,
         alloc,
     };
-    Some((pool, lanes))
+    Some((pool, lanes, guests))
 }
 
-/// The table of a pool of this shape, whose objects stand in this directory, and its lanes without their rights. None
-/// where memory was refused.
+/// The table of a pool of this shape, whose objects stand in this directory, its lanes without their rights, and the hands
+/// of its guests. None where memory was refused.
 fn parts_of<T: Clear + Drop>(
     alloc: Global,
     shape: &Shape,
     directory: Base<T>,
-) -> Option<(Grid<T>, Vec<Unendowed<T>>)>
+) -> Option<(Grid<T>, Vec<Unendowed<T>>, IntoIter<Hand<T>, Global>)>
     requires { IsShape shape.now }
     ensures grid { IfSome result (λ made. (made.0.shape ≡ shape.now) × (made.0.objects ≡ directory)) }
     ensures parts { IfSome result (λ made. AreFirstParts made.0 made.1.items) }
+    ensures hands { IfSome result (λ made. AreFurtherHands made.0 shape.now.lanes (into_iter_items made.2)
+        × (into_iter_len made.2 ≡ length (into_iter_items made.2))) }
 {
     let mut parts = Vec::with_capacity(alloc, shape.lanes as usize).ok()?;
     let (grid, hands) = Grid::new(alloc, shape, directory)?;
-    for hand in hands {
-        let number = parts.len() as u32;
+    let mut hands = hands.into_iter();
+    for number in 0..shape.lanes {
+        let Some(hand) = hands.next() else {
+            unreachable!()
+        };
         parts.push_reserved(part_of(alloc, shape, number, hand, directory)?);
     }
-    Some((grid, parts))
+    Some((grid, parts, hands))
 }
 
 /// Gives each lane the rights to the places of its shard.

@@ -1,4 +1,5 @@
 //! The publish of a filling, without a reference or with one.
+ghost use Rattle.keybits.specs.Shapes.{callers};
 ghost use Rattle.std.specs.Prelude.{◌≡◌, ◌<◌, true, false, []};
 ghost use Rattle.keybits.specs.Keys.{place_of};
 ghost use Rattle.seqpool.specs.declared.act.Act.TheVariants as acts;
@@ -10,19 +11,19 @@ ghost use Rattle.poolsteps.specs.Views.{the_lane, status_of, known_of, IsOne};
 ghost use Rattle.poolsteps.specs.Grids.{IsSpot, IsOf, SameSeat};
 ghost use Rattle.poolsteps.specs.Told.{MayPublish, LeftAlone};
 ghost use Rattle.poolsteps.specs.Moved.{stored_of};
-ghost use Rattle.shardpool.specs.Bounds.{most_call_looks};
-ghost use Rattle.shardpool.specs.Carried.{AreEmptied, ShowsCell};
-ghost use Rattle.shardpool.specs.Called.{Called, MadeOne};
+ghost use Rattle.seatcalls.specs.Bounds.{most_call_looks};
+ghost use Rattle.seatcalls.specs.Carried.{AreEmptied, ShowsCell};
+ghost use Rattle.seatcalls.specs.Called.{Called, MadeOne};
 ghost use Rattle.steplaws.specs.Facts.{most_references};
 ghost use Rattle.shardpool.specs.Lanes.{Owns, Made, refs};
 ghost use Rattle.shardpool.specs.AfterCalls.{AfterPublish, AfterDowngrade};
 
-use crate::cell_moves::{spread_cell, spread_others};
 use crate::create::Filling;
 use crate::get::{Ref, add_first_reference};
 use crate::pool::{Lane, Pool};
 use keybits::place_of;
 use poolsteps::{Grid, Hand, Share, Spot, Whole, shares_law};
+use seatcalls::{spread_cell, spread_others};
 use slotcell::Clear;
 
 impl<T: Clear + Drop> Pool<T> {
@@ -113,7 +114,7 @@ pub(crate) fn downgrade<T: Clear + Drop>(
     ensures acts { MadeOne hand.old.me.0 hand.new.me.0 (acts.Publish lane key (T.content whole.object) true) }
     ensures room { room_of hand.new.me.0.seen hand.new.me.0.rooms (place_of key) ≡ T.room whole.object }
     ensures slot { status_of (the_lane hand.new.me.0) (place_of key) lane ≡ Emptied }
-    ensures share { (result.number ≡ lane) × (result.of ≡ grid.now.shape.lanes) × (T.content result.object ≡ T.content whole.object)
+    ensures share { (result.number ≡ lane) × (result.of ≡ callers grid.now.shape) × (T.content result.object ≡ T.content whole.object)
         × (result.spot ≡ spots_at grid.now.objects.ptr grid.now.shape (place_of key)) }
     ensures cell { known_of (the_lane hand.new.me.0) (place_of key) ≡ stored_of T.content T.room result }
 {

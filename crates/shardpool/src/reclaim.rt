@@ -7,8 +7,8 @@ ghost use Rattle.poolsteps.specs.Layout.{spots_at, shard_start};
 ghost use Rattle.poolsteps.specs.Views.{the_lane, known_of, IsOne};
 ghost use Rattle.poolsteps.specs.Grids.{IsOf, SameSeat, IsSpot};
 ghost use Rattle.poolsteps.specs.Told.{HasPlace, LeftAlone, claimed_under};
-ghost use Rattle.shardpool.specs.AtPlace.{IsAt, MayAct};
-ghost use Rattle.shardpool.specs.Called.{EndsWithActs, TailActs, IsLawful, Ends, Tails, IsReclaimed, StandsAt, GivesHome, MadeHome};
+ghost use Rattle.seatcalls.specs.AtPlace.{IsAt, MayAct};
+ghost use Rattle.seatcalls.specs.Called.{EndsWithActs, TailActs, IsLawful, Ends, Tails, IsReclaimed, StandsAt, GivesHome, MadeHome};
 ghost use Rattle.steplaws.specs.declared.pending.Pending.TheVariants.{Returns};
 ghost use Rattle.poolsteps.specs.Returned.{IsAtRest};
 ghost use Rattle.keybits.specs.Keys.{place_of};
@@ -18,17 +18,16 @@ ghost use Rattle.keybits.specs.Places.{shard_of};
 ghost use Rattle.freelists.specs.Shards.{place_numbered};
 ghost use Rattle.freelists.specs.Queues.{IsAway};
 ghost use Rattle.poolsteps.specs.Whole.{Whole as Cell};
-ghost use Rattle.shardpool.specs.declared.reclaim.Reclaimed.TheVariants.{Own};
+ghost use Rattle.seatcalls.specs.declared.at.Reclaimed.TheVariants.{Own};
 ghost use Rattle.shardpool.specs.Stores.{Keeps};
 ghost use Rattle.shardpool.specs.Handed.{HandsOut};
-ghost use Rattle.shardpool.specs.Carried.{AreEmptied, AreAtRest, MayMoveCell, MovesCell};
+ghost use Rattle.seatcalls.specs.Carried.{AreEmptied, AreAtRest, MayMoveCell, MovesCell};
 
-use crate::cell_moves::{rest_cell, take_cell};
-use crate::emptier::Emptier;
 use crate::pool::LaneState;
 use crate::stores::keep;
 use keybits::{Life, claimable, link_to, owes_claim, place_of, shard_of};
 use poolsteps::{Grid, Hand, Spot, Whole, shares_law};
+use seatcalls::{At, Emptier, Reclaimed, owed_by, rest_cell, take_cell};
 use slotcell::Clear;
 use std::alloc::Global;
 use std::mem;
@@ -81,43 +80,6 @@ fn finish<T: Clear + Drop, E: Emptier<T>>(
     keep_reclaimed(state, spot, reclaimed);
 }
 
-/// What became of a place that a call reclaimed.
-#[derive(Drop)]
-pub(crate) enum Reclaimed<T> {
-    /// It is of the lane's own shard: its object, which was emptied.
-    Own(Whole<T>),
-    /// It is of another shard, and was returned there.
-    Returned,
-    /// Its last generation was over: it is retired, its object was handed over, and an empty one is at rest there.
-    Retired,
-}
-
-/// The place at which a call acts, and the lane that makes it.
-#[derive(Clone, Copy)]
-pub(crate) struct At<'a> {
-    /// Where the words and the slots of the place stand.
-    pub(crate) spot: Spot,
-    /// The lane's number.
-    pub(crate) lane: u32,
-    /// For each shard the word that the lane last pushed there; 0 where it pushed none.
-    pub(crate) tops: &'a Vec<u64>,
-    pub(crate) alloc: Global,
-}
-
-impl At<'_> {
-    ghost use Rattle.std.specs.Prelude.{◌≡◌, ◌<◌, length, slice_index};
-    ghost use Rattle.keybits.specs.Places.{shard_of as shard_number};
-
-    /// The word that the lane last pushed to the place's shard. Only the return of a place reads it.
-    #[inline]
-    pub(crate) fn top(&self) -> u64
-        requires { shard_number self.now.spot.place < length self.now.tops.now.items }
-        ensures { result ≡ slice_index self.now.tops.now.items (shard_number self.now.spot.place) }
-    {
-        self.tops[shard_of(self.spot.place) as usize]
-    }
-}
-
 impl<T> LaneState<T> {
     /// Where a call of this lane acts.
     #[inline(always)]
@@ -162,18 +124,6 @@ pub(crate) fn finish_leave<T: Clear + Drop, E: Emptier<T>>(
         return None;
     }
     Some(reclaim_place(grid, hand, at, generation, emptier))
-}
-
-/// The generation whose claim a LEAVE that found this word owes, where it owes one.
-#[inline(always)]
-pub(crate) fn owed_by(found: u64) -> Option<u32>
-    ensures { result ≡ (if owes_claim found then Some (generation_in found) else None) }
-{
-    if owes_claim(found) {
-        Some(Life::of_word(found).generation)
-    } else {
-        None
-    }
 }
 
 /// What follows a CLAIM of this generation that succeeded.

@@ -11,12 +11,12 @@ ghost use Rattle.shardpool.specs.LaneStates.{Fits};
 ghost use Rattle.shardpool.specs.Lendings.{LendsHome};
 ghost use Rattle.shardpool.specs.Handed.{HandsOut};
 
-use crate::emptier::{Emptier, InPlace};
 use crate::get::Ref;
 use crate::pool::{HeldKey, Lane, LaneState, Pool};
 use crate::reclaim::finish_if_owed;
 use keybits::place_of;
 use poolsteps::{Grid, Hand, Slot, Spot, shares_law};
+use seatcalls::{Emptier, InPlace};
 use slotcell::Clear;
 use std::mem;
 

@@ -46,7 +46,8 @@ pub record Asked : Type 0 where
   pub left : ℕ
   pub tries : Option ℕ
 
--- scripts that can be replayed: one for each lane of a shape within its limits
+-- scripts that can be replayed: one for each lane of a shape within its limits, which has no guests
 pub record AreScriptsOf (z : Shape) (scripts : List (List Command)) : Type 0 where
   pub shape : IsShape z
+  pub alone : z.guests ≡ 0
   pub count : length scripts ≡ z.lanes

@@ -19,7 +19,8 @@ use Rattle.steplaws.specs.declared.pending.Pending.{Pending}
 use Rattle.steplaws.specs.declared.pending.Pending.TheVariants.{Returns}
 use Rattle.steplaws.specs.Facts.{Words, Lanes, with_under, is_home, home_in, returner_after, returner, IsReturning, Home}
 use Rattle.steplaws.proofs.Updates.{at-lane}
-use Rattle.steplaws.proofs.HomePlaces.{with-one, returners-snoc}
+use Rattle.steplaws.proofs.HomePlaces.{with-one, returners-snoc, lane-same, guest-same}
+use Rattle.keybits.specs.Rows.{row_word}
 use Rattle.steplaws.proofs.Frames.{returning-same, chain-same, returned-same}
 
 -- neither Home nor Collect
@@ -148,7 +149,7 @@ life-returner f (acts.Collect l places) life = absurd life
 
 module _ (z : Shape) (w : Words) (f : ℕ → ℕ) (h : List Act) (r : Lanes) (t : Home z w h r) (lane : ℕ) (u : Pending) where
   abbrev V : Words
-  V = record { life = f; link = w.link; stack = w.stack }
+  V = record { life = f; link = w.link; stack = w.stack; bits = w.bits }
 
   -- a step on a lifecycle word that makes no act
   pub silent_keeps : IsReturning z V h lane u → Home z V h (with_under r lane u)
@@ -156,6 +157,7 @@ module _ (z : Shape) (w : Words) (f : ℕ → ℕ) (h : List Act) (r : Lanes) (t
     stacks = t.stacks;
     returned = t.returned;
     last_pushed = t.last_pushed;
+    bits = t.bits;
     returning = λ m b. at-lane r.under lane u (λ n y. IsReturning z V h n y) m own
         (λ other. returning-same z w V h h m (r.under m) (λ q i a e. (e, refl, λ none. none)) (t.returning m b));
     chained = λ m b. chain-same z w V h h m (r.chain m) (λ q i o e some. (e, refl)) (t.chained m b);
@@ -182,9 +184,11 @@ module _ (z : Shape) (w : Words) (f : ℕ → ℕ) (h : List Act) (r : Lanes) (t
 
     pub act_keeps : IsReturning z V K lane u → Home z V K (with_under r lane u)
     act_keeps own = record {
-      stacks = λ shard inside. subst (λ (g : ℕ → Bool). AreHome z shard w.link (w.stack shard) g) (fun_ext (λ q. homes-are shard q)) (t.stacks shard inside);
+      stacks = λ shard inside. subst (λ (g : ℕ → Bool). AreHome z shard w.link (w.stack shard) g) (fun_ext (λ q. sym (lane-same z h shard q K (sym (homes-are shard q)) (returner-is q)))) (t.stacks shard inside);
       returned = λ shard m inside b a. returned-same z w V h K shard m b a (t.stacks shard inside) (t.returned shard m inside b a) (λ q e. (refl, returner-is q)) refl;
       last_pushed = t.last_pushed;
+      bits = λ shard row inside. t.bits shard row inside
+          ∙ ap (row_word shard row) (fun_ext (λ q. sym (guest-same z h shard q K (sym (homes-are shard q)) (returner-is q))));
       returning = λ m b. at-lane r.under lane u (λ n y. IsReturning z V K n y) m own
           (λ other. returning-same z w V h K m (r.under m) (λ q i a e. (stays-with q m (inl (λ same. other (sym same))) e, refl, λ none. none)) (t.returning m b));
       chained = λ m b. dite (ℕ_discrete m lane)

@@ -4,7 +4,7 @@ use Rattle.std.proofs.lemmas.Bool.{and_from}
 use Rattle.keybits.specs.declared.shape.Shape.{Shape}
 use Rattle.keybits.specs.declared.step.Word.TheVariants.{Life}
 use Rattle.keybits.specs.Places.{shard_of}
-use Rattle.keybits.specs.Shapes.{is_place}
+use Rattle.keybits.specs.Shapes.{callers, is_place}
 use Rattle.keybits.specs.Keys.{place_of, generation_of, is_key, key_number}
 use Rattle.keybits.specs.Words.{word_with, state_in, count_in, generation_in, claimable}
 use Rattle.keybits.specs.Steps.{claim_gives}
@@ -26,7 +26,7 @@ use Rattle.steplaws.proofs.Keeping.{keeps}
 use Rattle.steplaws.proofs.Generations.{key_now}
 use Rattle.steplaws.specs.StepLaws.{reclaim, HasUnderWay, Keeps, ClaimOwnLaw, ClaimOtherLaw, ClaimLastLaw, ClaimFailsLaw}
 
-module _ (z : Shape) (w : Words) (h : List Act) (r : Lanes) (s : Rule z (moment w h r)) (lane : ℕ) (below : lane < z.lanes) where
+module _ (z : Shape) (w : Words) (h : List Act) (r : Lanes) (s : Rule z (moment w h r)) (lane : ℕ) (below : lane < (callers z)) where
   abbrev P : Pool
   P = pool_after z h
 
@@ -111,8 +111,8 @@ module _ (z : Shape) (w : Words) (h : List Act) (r : Lanes) (s : Rule z (moment 
 
       ended : (b : Bool) (g n : ℕ) (x : Spot) → n ≡ claimable g → x.generation ≡ g → let m : ℕ = cond b (n - 1) (n + 4294967293) in let y : Spot = cond b (spot x.generation retired) (spot (x.generation + 1) (with lane)) in
           (count_in m ≡ 0) × (state_in m ≡ bits_of y.phase) × (generation_in m ≡ y.generation) × (all_refs z y.phase ≡ 0) × (state_in m ≡ 3 → ⊥)
-      ended true g n x hit gen = (omega arith, omega arith, omega arith, sum-none z.lanes, λ e. absurd (omega arith))
-      ended false g n x hit gen = (omega arith, omega arith, omega arith, sum-none z.lanes, λ e. absurd (omega arith))
+      ended true g n x hit gen = (omega arith, omega arith, omega arith, sum-none (callers z), λ e. absurd (omega arith))
+      ended false g n x hit gen = (omega arith, omega arith, omega arith, sum-none (callers z), λ e. absurd (omega arith))
 
       after_claim : (g n : ℕ) (x : Spot) → n ≡ claimable g → x.generation ≡ g → let m : ℕ = claim_gives z.last_generation g n in
           let y : Spot = cond (eqb x.generation z.last_generation) (spot x.generation retired) (spot (x.generation + 1) (with lane)) in
@@ -140,7 +140,7 @@ last-word last g n hit same =
     omega arith
 
 -- the same of a place and a generation that the key stands for
-module _ (z : Shape) (w : Words) (h : List Act) (r : Lanes) (s : Rule z (moment w h r)) (lane : ℕ) (below : lane < z.lanes) (key : ℕ) (good : is_key z key ≡ true) where
+module _ (z : Shape) (w : Words) (h : List Act) (r : Lanes) (s : Rule z (moment w h r)) (lane : ℕ) (below : lane < (callers z)) (key : ℕ) (good : is_key z key ≡ true) where
   abbrev ClaimedAt : ℕ → ℕ → Pending → Type 0
   ClaimedAt place g u = is_place z place ≡ true → r.under lane ≡ Owes place g → w.life place ≡ claimable g
       → Rule z (moment (with_value w (Life place) (claim_gives z.last_generation g (w.life place))) (h ++ acts.Reclaim lane key ∷ []) (with_under r lane u))

@@ -5,7 +5,7 @@ use mathlib.Core.Logic.{dite}
 use native.Mathlib.Decide.{ℕ_discrete}
 use Rattle.keybits.specs.declared.shape.Shape.{Shape}
 use Rattle.keybits.specs.declared.step.Word.TheVariants.{Life}
-use Rattle.keybits.specs.Shapes.{is_place}
+use Rattle.keybits.specs.Shapes.{callers, is_place}
 use Rattle.keybits.specs.Keys.{place_of, generation_of, is_key}
 use Rattle.keybits.specs.Words.{state_in, count_in, generation_in, claimable}
 use Rattle.keybits.proofs.KeyLemmas.{key_parts}
@@ -17,7 +17,7 @@ use Rattle.seqpool.proofs.Growth.{pool-snoc, legal-snoc, after-here, after-else}
 use Rattle.seqpool.proofs.Tallies.{put-here, put-else}
 use Rattle.steplaws.specs.declared.pending.Pending.TheVariants.{Nothing, Undo, Owes}
 use Rattle.steplaws.specs.Calls.{is_hit}
-use Rattle.steplaws.specs.Facts.{put_at, Words, with_value, Lanes, with_under, Moment, moment, to_undo, bits_of, most_references, Home, Rule}
+use Rattle.steplaws.specs.Facts.{put_at, Words, with_value, Lanes, with_under, Moment, moment, to_undo, bits_of, most_of, Home, Rule}
 use Rattle.steplaws.proofs.Acts.{silent_keeps, act_keeps}
 use Rattle.steplaws.proofs.Lives.{all_refs, StepsOn, life_keeps, count_room}
 use Rattle.keybits.specs.declared.step.Kind.TheVariants as kinds
@@ -57,7 +57,7 @@ open-yes (published c r false) e = record { content = c; references = r; is = re
 open-yes home e = absurd (omega arith)
 open-yes retired e = absurd (omega arith)
 
-module _ (z : Shape) (w : Words) (h : List Act) (r : Lanes) (s : Rule z (moment w h r)) (lane key : ℕ) (below : lane < z.lanes) (good : is_key z key ≡ true) (inside : is_place z (place_of key) ≡ true)
+module _ (z : Shape) (w : Words) (h : List Act) (r : Lanes) (s : Rule z (moment w h r)) (lane key : ℕ) (below : lane < (callers z)) (good : is_key z key ≡ true) (inside : is_place z (place_of key) ≡ true)
     (idle : r.under lane ≡ Nothing) where
   room : count_in (w.life (place_of key)) < 1073741823
   room = count_room z w h r s (place_of key) inside
@@ -167,7 +167,7 @@ module _ (z : Shape) (w : Words) (h : List Act) (r : Lanes) (s : Rule z (moment 
       (silent_keeps z w (put_at w.life place (n + 4)) h r s.home lane (Undo key true) tt))
 
   -- the ENTER of a get that hits: with the content, and one reference more
-  pub get_hits : references_in (P place).phase lane < most_references → is_hit key n ≡ true → (content : List ℕ) × Rule z (moment (with_value w (Life place) (n + 4)) (h ++ acts.Get lane key (Some content) ∷ []) (with_under r lane Nothing))
+  pub get_hits : references_in (P place).phase lane < most_of z lane → is_hit key n ≡ true → (content : List ℕ) × Rule z (moment (with_value w (Life place) (n + 4)) (h ++ acts.Get lane key (Some content) ∷ []) (with_under r lane Nothing))
   get_hits fewer hit =
       let p = is_hit-parts key n hit in
       let st = s.state place inside in
@@ -184,7 +184,7 @@ module _ (z : Shape) (w : Words) (h : List Act) (r : Lanes) (s : Rule z (moment 
           elsewhere = λ q other. ap (λ (Q : Pool). Q q) (pool-snoc z fresh h a) ∙ after-else z P a q (ne_eqb q place other);
           undo_elsewhere = λ q other. sym (no_undo q);
           count = let new = ap (all_refs z) phase in let old = ap (all_refs z) row.is in
-              let grown = sum-at z.lanes lane (put row.references lane (row.references lane + 1)) row.references below (λ m b other. put-else row.references lane (row.references lane + 1) m other) in
+              let grown = sum-at (callers z) lane (put row.references lane (row.references lane + 1)) row.references below (λ m b other. put-else row.references lane (row.references lane + 1) m other) in
               let one = put-here row.references lane (row.references lane + 1) lane refl in
               let c = s.count place inside in let m = more.0 in let e = no_undo place in omega arith;
           state = let m = more in (m.1 ∙ (p.1 ∙ sym (ap bits_of phase)), m.2 ∙ (st.1 ∙ sym (ap (λ (x : Spot). x.generation) at)));
@@ -198,7 +198,7 @@ module _ (z : Shape) (w : Words) (h : List Act) (r : Lanes) (s : Rule z (moment 
           owed = λ generation e. absurd (unclaimed generation e);
           few = λ m. let new = ap (λ (f : Phase). references_in f m) phase in let was = ap (λ (f : Phase). references_in f m) row.is in let old = s.few place m in
               dite (ℕ_discrete m lane)
-              (λ e. let one = put-here row.references lane (row.references lane + 1) m e in let own = ap (λ (f : Phase). references_in f lane) row.is in omega arith)
+              (λ e. let most : most_of z m ≡ most_of z lane = ap (most_of z) e in let one = put-here row.references lane (row.references lane + 1) m e in let own = ap (λ (f : Phase). references_in f lane) row.is in omega arith)
               (λ d. let none = put-else row.references lane (row.references lane + 1) m d in omega arith);
           home = act_keeps z w (put_at w.life place (n + 4)) h r s.home lane Nothing a tt refl ok (λ q some. tt) tt;
         },
@@ -211,12 +211,12 @@ get-hits-law z m lane key s u good fewer hit =
     let place : ℕ = place_of key in
     let inside = (key_parts z key good).place in
     let cur = hit_current z m.words m.history m.lanes s lane key u.0 good inside u.1 hit in
-    let few : references_in (pool_after z m.history place).phase lane < most_references
-    = subst (λ (n : ℕ). n < most_references) (ap (λ (b : Bool). cond b (references_in (pool_after z m.history place).phase lane) 0) cur) fewer in
+    let few : references_in (pool_after z m.history place).phase lane < most_of z lane
+    = subst (λ (n : ℕ). n < most_of z lane) (ap (λ (b : Bool). cond b (references_in (pool_after z m.history place).phase lane) 0) cur) fewer in
     let g = get_hits z m.words m.history m.lanes s lane key u.0 good inside u.1 few hit in
     (g.0, keeps z m kinds.Enter (Life place) (m.words.life place + 4) (Some (acts.Get lane key (Some g.0))) (with_under m.lanes lane Nothing) refl (count_room z m.words m.history m.lanes s place inside) g.1)
 
-module _ (z : Shape) (m : Moment) (lane key : ℕ) (s : Rule z m) (u : (lane < z.lanes) × (m.lanes.under lane ≡ Nothing)) (good : is_key z key ≡ true) where
+module _ (z : Shape) (m : Moment) (lane key : ℕ) (s : Rule z m) (u : (lane < (callers z)) × (m.lanes.under lane ≡ Nothing)) (good : is_key z key ≡ true) where
   inside_now : is_place z (place_of key) ≡ true
   inside_now = (key_parts z key good).place
 

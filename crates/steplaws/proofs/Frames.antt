@@ -12,7 +12,8 @@ use Rattle.seqpool.specs.declared.act.Act.{Act}
 use Rattle.seqpool.specs.Pool.{with, pool_after}
 use Rattle.steplaws.specs.declared.pending.Pending.{Pending}
 use Rattle.steplaws.specs.declared.pending.Pending.TheVariants.{Nothing, Undo, Owes, Returns}
-use Rattle.steplaws.specs.Facts.{Words, home_in, returner, IsLinked, IsReturning, IsChain}
+use Rattle.steplaws.proofs.HomePlaces.{lane-part}
+use Rattle.steplaws.specs.Facts.{Words, home_in, lane_home, returner, IsLinked, IsReturning, IsChain}
 
 linked-same : (n m : ℕ) (linked : Option ℕ) → m ≡ n → IsLinked n linked → IsLinked m linked
 linked-same n m None e l = tt
@@ -48,13 +49,13 @@ module _ (z : Shape) (w v : Words) (h k : List Act) where
   }
 
   -- who returned the places on a stack
-  pub returned-same : (shard lane : ℕ) → lane < z.lanes → lane ≢ shard → AreHome z shard w.link (w.stack shard) (home_in z h shard)
+  pub returned-same : (shard lane : ℕ) → lane < z.lanes → lane ≢ shard → AreHome z shard w.link (w.stack shard) (lane_home z h shard)
       → ((thread : List ℕ) → Leads w.link shard (w.stack shard lane) thread → (place : ℕ) → 0 < times place thread → returner h place ≡ lane)
       → ((q : ℕ) → home_in z h shard q ≡ true → (v.link q ≡ w.link q) × (returner k q ≡ returner h q)) → v.stack shard lane ≡ w.stack shard lane
       → (thread : List ℕ) → Leads v.link shard (v.stack shard lane) thread → (place : ℕ) → 0 < times place thread → returner k place ≡ lane
   returned-same shard lane below apart (threads, a) by same still thread leads place some =
       let is_home : (q : ℕ) → 0 < times q (threads lane) → home_in z h shard q ≡ true =
-      λ q more. home_on threads z shard w.link (w.stack shard) (home_in z h shard) a lane q below apart more in
+      λ q more. (lane-part z h shard q (home_on threads z shard w.link (w.stack shard) (lane_home z h shard) a lane q below apart more)).0 in
       let old : Leads w.link shard (w.stack shard lane) (threads lane) = a.leads lane below apart in
       let new : Leads v.link shard (w.stack shard lane) (threads lane) = leads-same w.link v.link shard (w.stack shard lane) (threads lane) (λ q more. (same q (is_home q more)).0) old in
       let one : thread ≡ threads lane = leads-one v.link shard (w.stack shard lane) thread (threads lane) (subst (λ n. Leads v.link shard n thread) still leads) new in

@@ -1,16 +1,18 @@
 -- Phases, home places, lists of places, and who returned a place.
-use Rattle.std.proofs.Common.{◌≡◌, ◌≢◌, ℕ, ◌<◌, ◌≤◌, Bool, true, false, cond, eqb, ◌&&◌, List, [], ◌∷◌, ◌++◌, refl, ap, sym, ◌∙◌, arith, eq-eqb, ne_eqb}
-use Rattle.std.proofs.lemmas.Bool.{eqb-true}
+use Rattle.std.proofs.Common.{◌≡◌, ◌≢◌, ℕ, ◌<◌, ◌≤◌, Bool, true, false, cond, eqb, nat_lt, nat_le, ◌&&◌, ⊎_elim, List, [], ◌∷◌, ◌++◌, refl, ap, sym, ◌∙◌, arith, eq-eqb, ne_eqb}
+use Rattle.std.proofs.lemmas.Bool.{eqb-true, and_parts, and_from, ltb-true, lt-ltb, leb-true, le-leb, cases_Bool}
 use mathlib.Core.Logic.{dite}
 use native.Mathlib.Decide.{ℕ_discrete}
 use Rattle.keybits.specs.declared.shape.Shape.{Shape}
 use Rattle.keybits.specs.Places.{shard_of}
-use Rattle.keybits.specs.Shapes.{is_place}
+use Rattle.keybits.specs.Shapes.{is_place, callers}
 use Rattle.keybits.specs.Counts.{times}
 use Rattle.keybits.proofs.CountLemmas.{one_at, none_at}
 use Rattle.seqpool.specs.declared.act.Act.{Act}
-use Rattle.seqpool.specs.Pool.{Phase, with, published, home, retired, has, NoRepeats, pool_after}
-use Rattle.steplaws.specs.Facts.{is_home, home_in, returner_after, returners_after}
+use Rattle.seqpool.specs.declared.act.Act.TheVariants as acts
+use Rattle.seqpool.specs.Pool.{Phase, with, published, home, retired, lane_of, has, NoRepeats, Pool, after, LegalFrom, pool_after}
+use Rattle.steplaws.specs.Facts.{is_home, home_in, lane_home, guest_home, returner, returner_after, returners_after}
+use Rattle.steplaws.proofs.Updates.{at-here, at-else}
 
 -- ---- phases
 
@@ -90,3 +92,55 @@ repeats-none (x ∷ xs) once = (
 pub returners-snoc : (f : ℕ → ℕ) (h : List Act) (act : Act) → returners_after f (h ++ act ∷ []) ≡ returner_after act (returners_after f h)
 returners-snoc f [] act = refl
 returners-snoc f (a ∷ more) act = returners-snoc (returner_after a f) more act
+
+-- a legal history has none but its callers return places
+returner-step : (z : Shape) (f : ℕ → ℕ) (act : Act) → ((q : ℕ) → f q < callers z) → (lane_of act < callers z) → (q : ℕ) → returner_after act f q < callers z
+returner-step z f (acts.Publish l key content with_ref) low one q = low q
+returner-step z f (acts.Get l key reply) low one q = low q
+returner-step z f (acts.Release l key) low one q = low q
+returner-step z f (acts.Clear l key reply) low one q = low q
+returner-step z f (acts.Reclaim l key) low one q = low q
+returner-step z f (acts.Home l place) low one q = dite (ℕ_discrete q place)
+    (λ e. let is = at-here f place l q e in omega arith)
+    (λ other. let is = at-else f place l q other in let old = low q in omega arith)
+returner-step z f (acts.Collect l places) low one q = low q
+
+pub returners-below : (z : Shape) (P : Pool) (h : List Act) (f : ℕ → ℕ) → ((q : ℕ) → f q < callers z) → LegalFrom z P h → (q : ℕ) → returners_after f h q < callers z
+returners-below z P [] f low legal q = low q
+returners-below z P (a ∷ more) f low legal q = returners-below z (after z a P) more (returner_after a f) (returner-step z f a low legal.0) legal.2 q
+
+-- ---- home by a lane, and by a guest
+
+module _ (z : Shape) (h : List Act) (shard q : ℕ) where
+  pub lane-part : lane_home z h shard q ≡ true → (home_in z h shard q ≡ true) × (returner h q < z.lanes)
+  lane-part e = let p = and_parts (home_in z h shard q) (nat_lt (returner h q) z.lanes) e in (p.0, ltb-true (returner h q) z.lanes p.1)
+
+  pub guest-part : guest_home z h shard q ≡ true → (home_in z h shard q ≡ true) × (z.lanes ≤ returner h q)
+  guest-part e = let p = and_parts (home_in z h shard q) (nat_le z.lanes (returner h q)) e in (p.0, leb-true z.lanes (returner h q) p.1)
+
+  pub lane-from : home_in z h shard q ≡ true → returner h q < z.lanes → lane_home z h shard q ≡ true
+  lane-from is low = and_from (home_in z h shard q) (nat_lt (returner h q) z.lanes) is (lt-ltb (returner h q) z.lanes low)
+
+  pub guest-from : home_in z h shard q ≡ true → z.lanes ≤ returner h q → guest_home z h shard q ≡ true
+  guest-from is high = and_from (home_in z h shard q) (nat_le z.lanes (returner h q)) is (le-leb z.lanes (returner h q) high)
+
+  -- of a place that isn't home neither holds
+  pub lane-off : home_in z h shard q ≡ false → lane_home z h shard q ≡ false
+  lane-off none = ap (λ (b : Bool). b && nat_lt (returner h q) z.lanes) none
+
+  pub guest-off : home_in z h shard q ≡ false → guest_home z h shard q ≡ false
+  guest-off none = ap (λ (b : Bool). b && nat_le z.lanes (returner h q)) none
+
+  -- nor of one that the other returned
+  pub lane-none : z.lanes ≤ returner h q → lane_home z h shard q ≡ false
+  lane-none high = ⊎_elim (λ (is : lane_home z h shard q ≡ true). let p = lane-part is in absurd (omega arith)) (λ (not : lane_home z h shard q ≡ false). not) (cases_Bool (lane_home z h shard q))
+
+  pub guest-none : returner h q < z.lanes → guest_home z h shard q ≡ false
+  guest-none low = ⊎_elim (λ (is : guest_home z h shard q ≡ true). let p = guest-part is in absurd (omega arith)) (λ (not : guest_home z h shard q ≡ false). not) (cases_Bool (guest_home z h shard q))
+
+  -- and both stay where the place stays home, or not, and who returned it
+  pub lane-same : (k : List Act) → home_in z k shard q ≡ home_in z h shard q → returner k q ≡ returner h q → lane_home z k shard q ≡ lane_home z h shard q
+  lane-same k homes who = ap (λ (b : Bool). b && nat_lt (returner k q) z.lanes) homes ∙ ap (λ (l : ℕ). home_in z h shard q && nat_lt l z.lanes) who
+
+  pub guest-same : (k : List Act) → home_in z k shard q ≡ home_in z h shard q → returner k q ≡ returner h q → guest_home z k shard q ≡ guest_home z h shard q
+  guest-same k homes who = ap (λ (b : Bool). b && nat_le z.lanes (returner k q)) homes ∙ ap (λ (l : ℕ). home_in z h shard q && nat_le z.lanes l) who

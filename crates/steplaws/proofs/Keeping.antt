@@ -17,7 +17,7 @@ use Rattle.steplaws.specs.StepLaws.{with_act, moment_after, IsAllowed, HasRoom, 
 use Rattle.steplaws.specs.Facts.{value_of}
 
 -- the last act of a legal history is allowed
-allowed-last : (z : Shape) (h : List Act) (act : Option Act) → IsLegal z (with_act h act) → IsAllowed z h act
+pub allowed-last : (z : Shape) (h : List Act) (act : Option Act) → IsLegal z (with_act h act) → IsAllowed z h act
 allowed-last z h None legal = tt
 allowed-last z h (Some act) legal = let l = legal-rest z fresh h (act ∷ []) legal in (l.0, l.1)
 
@@ -31,22 +31,22 @@ keeps z m kind word value act lanes changes room rule =
 put-same : (f : ℕ → ℕ) (i x : ℕ) → x ≡ f i → put_at f i x ≡ f
 put-same f i x e = fun_ext (λ j. dite (ℕ_discrete j i) (λ here. at-here f i x j here ∙ (e ∙ ap f (sym here))) (λ other. at-else f i x j other))
 
-two-same : (f : ℕ → ℕ → ℕ) (i k x : ℕ) → x ≡ f i k → put_two f i k x ≡ f
+pub two-same : (f : ℕ → ℕ → ℕ) (i k x : ℕ) → x ≡ f i k → put_two f i k x ≡ f
 two-same f i k x e = fun_ext (λ j. fun_ext (λ m. dite (ℕ_discrete j i)
     (λ here. dite (ℕ_discrete m k)
     (λ there. two-here f i k x j m here there ∙ (e ∙ ap (λ (n : ℕ). f n k) (sym here) ∙ ap (f j) (sym there)))
     (λ other. two-else f i k x j m other))
     (λ other. two-row f i k x j m other)))
 
--- the words of these three
-abbrev record_of : (ℕ → ℕ) → (ℕ → ℕ) → (ℕ → ℕ → ℕ) → Words
-record_of f g k = record { life = f; link = g; stack = k }
+-- the words of these four
+abbrev record_of : (ℕ → ℕ) → (ℕ → ℕ) → (ℕ → ℕ → ℕ) → (ℕ → ℕ → ℕ) → Words
+record_of f g k b = record { life = f; link = g; stack = k; bits = b }
 
 -- a word that gets its own value
 pub with-same : (words : Words) (word : Word) (value : ℕ) → value ≡ value_of words word → with_value words word value ≡ words
-with-same words (Life place) value e = ap (λ (f : ℕ → ℕ). record_of f words.link words.stack) (put-same words.life place value e)
-with-same words (Link place) value e = ap (λ (f : ℕ → ℕ). record_of words.life f words.stack) (put-same words.link place value e)
-with-same words (Stack shard lane) value e = ap (λ (f : ℕ → ℕ → ℕ). record_of words.life words.link f) (two-same words.stack shard lane value e)
+with-same words (Life place) value e = ap (λ (f : ℕ → ℕ). record_of f words.link words.stack words.bits) (put-same words.life place value e)
+with-same words (Link place) value e = ap (λ (f : ℕ → ℕ). record_of words.life f words.stack words.bits) (put-same words.link place value e)
+with-same words (Stack shard lane) value e = ap (λ (f : ℕ → ℕ → ℕ). record_of words.life words.link f words.bits) (two-same words.stack shard lane value e)
 
 -- a step that leaves its word as it was
 pub rule-same : (z : Shape) (words : Words) (h : List Act) (lanes : Lanes) (word : Word) (value : ℕ) → value ≡ value_of words word

@@ -5,7 +5,7 @@ use mathlib.Core.Logic.{dite}
 use native.Mathlib.Decide.{ℕ_discrete}
 use Rattle.keybits.specs.declared.shape.Shape.{Shape}
 use Rattle.keybits.specs.declared.step.Word.TheVariants.{Life}
-use Rattle.keybits.specs.Shapes.{is_place}
+use Rattle.keybits.specs.Shapes.{callers, is_place}
 use Rattle.keybits.specs.Keys.{place_of, generation_of, is_key}
 use Rattle.keybits.specs.Words.{state_in, count_in, generation_in, claimable}
 use Rattle.keybits.proofs.KeyLemmas.{key_parts}
@@ -75,11 +75,11 @@ lost-le lane m (published c r x) = dite (ℕ_discrete m lane)
 lost-le lane m home = omega arith
 lost-le lane m retired = omega arith
 
-lost-refs : (z : Shape) (lane : ℕ) (f : Phase) → lane < z.lanes → 0 < references_in f lane → all_refs z (lost lane f) + 1 ≡ all_refs z f
+lost-refs : (z : Shape) (lane : ℕ) (f : Phase) → lane < (callers z) → 0 < references_in f lane → all_refs z (lost lane f) + 1 ≡ all_refs z f
 lost-refs z lane (with l) below h = absurd (omega arith)
 lost-refs z lane (published c r x) below h =
     let one = put-here r lane (r lane - 1) lane refl in
-    let shrunk = sum-at z.lanes lane (put r lane (r lane - 1)) r below (λ m b other. put-else r lane (r lane - 1) m other) in omega arith
+    let shrunk = sum-at (callers z) lane (put r lane (r lane - 1)) r below (λ m b other. put-else r lane (r lane - 1) m other) in omega arith
 lost-refs z lane home below h = absurd (omega arith)
 lost-refs z lane retired below h = absurd (omega arith)
 
@@ -96,7 +96,7 @@ one_current false x e = absurd (omega arith)
 referred_place : (z : Shape) (P : Pool) (lane key : ℕ) → 0 < references z P lane key → is_place z (place_of key) ≡ true
 referred_place z P lane key has = (key_parts z key (current-key z P key (one_current (is_current z P key) (references_in (P (place_of key)).phase lane) has)).0).place
 
-module _ (z : Shape) (w : Words) (h : List Act) (r : Lanes) (s : Rule z (moment w h r)) (lane : ℕ) (below : lane < z.lanes) where
+module _ (z : Shape) (w : Words) (h : List Act) (r : Lanes) (s : Rule z (moment w h r)) (lane : ℕ) (below : lane < (callers z)) where
   abbrev P : Pool
   P = pool_after z h
 
@@ -105,7 +105,7 @@ module _ (z : Shape) (w : Words) (h : List Act) (r : Lanes) (s : Rule z (moment 
   undo-some key hit inside is =
       let place : ℕ = place_of key in
       let one : to_undo place (r.under lane) ≡ 1 = ap (to_undo place) is ∙ ap (λ (b : Bool). let i : ℕ = cond b 1 0 in i) (eq-eqb place place refl) in
-      let part = sum-part z.lanes lane (λ x. to_undo place (r.under x)) below in
+      let part = sum-part (callers z) lane (λ x. to_undo place (r.under x)) below in
       let c = s.count place inside in
       omega arith
 
@@ -113,7 +113,7 @@ module _ (z : Shape) (w : Words) (h : List Act) (r : Lanes) (s : Rule z (moment 
   release-some key has =
       let place : ℕ = place_of key in
       let refs : 0 < references_in (P place).phase lane = one_has (is_current z P key) (references_in (P place).phase lane) has in
-      let part = sum-part z.lanes lane (λ x. references_in (P place).phase x) below in
+      let part = sum-part (callers z) lane (λ x. references_in (P place).phase x) below in
       let c = s.count place (referred_place z P lane key has) in
       omega arith
 
@@ -125,7 +125,7 @@ module _ (z : Shape) (w : Words) (h : List Act) (r : Lanes) (s : Rule z (moment 
       let n : ℕ = w.life place in
       let u : Pending = owed_after place n in
       let one : to_undo place (r.under lane) ≡ 1 = ap (to_undo place) is ∙ ap (λ (b : Bool). let i : ℕ = cond b 1 0 in i) (eq-eqb place place refl) in
-      let part = sum-part z.lanes lane (λ x. to_undo place (r.under x)) below in
+      let part = sum-part (callers z) lane (λ x. to_undo place (r.under x)) below in
       let c = s.count place inside in
       let some = undo-some key hit inside is in
       let l = less n m change some in
@@ -153,7 +153,7 @@ module _ (z : Shape) (w : Words) (h : List Act) (r : Lanes) (s : Rule z (moment 
       let a : Act = acts.Release lane key in
       let k : List Act = h ++ a ∷ [] in
       let refs : 0 < references_in (P place).phase lane = one_has (is_current z P key) (references_in (P place).phase lane) has in
-      let part = sum-part z.lanes lane (λ x. references_in (P place).phase x) below in
+      let part = sum-part (callers z) lane (λ x. references_in (P place).phase x) below in
       let c = s.count place inside in
       let some : 1 ≤ count_in n = omega arith in
       let l = less n m change some in

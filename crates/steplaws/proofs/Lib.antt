@@ -19,3 +19,4 @@ pub mod Counts
 pub mod Claims
 pub mod Stays
 pub mod Starts
+pub mod Bits

@@ -3,7 +3,7 @@ use Rattle.std.proofs.Common.{◌≡◌, ◌⊎◌, inl, inr, ⊎_elim, ℕ, ◌
 use Rattle.std.proofs.lemmas.Bool.{and_parts}
 use Rattle.keybits.specs.declared.shape.Shape.{Shape}
 use Rattle.keybits.specs.declared.step.Word.TheVariants.{Life}
-use Rattle.keybits.specs.Shapes.{is_place}
+use Rattle.keybits.specs.Shapes.{callers, is_place}
 use Rattle.keybits.specs.Keys.{place_of, generation_of, is_key}
 use Rattle.keybits.specs.Words.{state_in, count_in, generation_in}
 use Rattle.keybits.proofs.KeyLemmas.{key_parts}
@@ -82,7 +82,7 @@ published-bits (published c r false) p = inl refl
 published-bits home p = absurd (cc p)
 published-bits retired p = absurd (cc p)
 
-module _ (z : Shape) (w : Words) (h : List Act) (r : Lanes) (s : Rule z (moment w h r)) (lane : ℕ) (below : lane < z.lanes) where
+module _ (z : Shape) (w : Words) (h : List Act) (r : Lanes) (s : Rule z (moment w h r)) (lane : ℕ) (below : lane < (callers z)) where
   abbrev P : Pool
   P = pool_after z h
 
@@ -104,7 +104,7 @@ module _ (z : Shape) (w : Words) (h : List Act) (r : Lanes) (s : Rule z (moment 
       ap (λ (Q : Pool). Q place) (pool-snoc z fresh h a) ∙ marks reply place key refl same_reply both.1 in
       let word = marked-word n m change (⊎_elim (λ (e : bits_of (P place).phase ≡ 1). inl (st.0 ∙ e)) (λ (e : bits_of (P place).phase ≡ 3). inr (st.0 ∙ e)) (published-bits (P place).phase both.1)) in
       let one : to_undo place (r.under lane) ≡ 1 = ap (to_undo place) is ∙ ap (λ (b : Bool). let i : ℕ = cond b 1 0 in i) (eq-eqb place place refl) in
-      let part = sum-part z.lanes lane (λ x. to_undo place (r.under x)) below in
+      let part = sum-part (callers z) lane (λ x. to_undo place (r.under x)) below in
       let keeps_key : (q : ℕ) → place_of q ≡ place → has_key z P q ≡ true → has_key z (pool_after z k) q ≡ true = λ q here old.
       ap (λ (x : ℕ). (is_key z q && eqb (pool_after z k x).generation (generation_of q)) && is_published (pool_after z k x).phase) here
       ∙ (ap (λ (x : Spot). (is_key z q && eqb x.generation (generation_of q)) && is_published x.phase) at

@@ -5,7 +5,7 @@ use mathlib.Core.Logic.{dite}
 use native.Mathlib.Decide.{ℕ_discrete}
 use Rattle.keybits.specs.declared.shape.Shape.{Shape}
 use Rattle.keybits.specs.declared.step.Word.TheVariants.{Life}
-use Rattle.keybits.specs.Shapes.{is_place}
+use Rattle.keybits.specs.Shapes.{callers, is_place}
 use Rattle.keybits.specs.Keys.{place_of}
 use Rattle.keybits.specs.Counts.{times}
 use Rattle.keybits.specs.Words.{state_in, count_in, generation_in}
@@ -20,12 +20,12 @@ use Rattle.seqpool.proofs.Ranks.{current-key}
 use Rattle.steplaws.specs.declared.pending.Pending.TheVariants.{Nothing, Owes}
 use Rattle.steplaws.specs.Facts.{put_at, Words, with_value, Lanes, with_under, moment, to_undo, bits_of, Rule}
 use Rattle.steplaws.proofs.Acts.{act_keeps}
-use Rattle.steplaws.proofs.Lives.{all_refs, life_keeps, count_room}
+use Rattle.steplaws.proofs.Lives.{most-some, all_refs, life_keeps, count_room}
 use Rattle.keybits.specs.declared.step.Kind.TheVariants as kinds
 use Rattle.steplaws.proofs.Keeping.{keeps}
 use Rattle.steplaws.specs.StepLaws.{PublishLaw}
 
-module _ (z : Shape) (w : Words) (h : List Act) (r : Lanes) (s : Rule z (moment w h r)) (lane : ℕ) (below : lane < z.lanes) where
+module _ (z : Shape) (w : Words) (h : List Act) (r : Lanes) (s : Rule z (moment w h r)) (lane : ℕ) (below : lane < (callers z)) where
   abbrev P : Pool
   P = pool_after z h
 
@@ -48,11 +48,11 @@ module _ (z : Shape) (w : Words) (h : List Act) (r : Lanes) (s : Rule z (moment 
         elsewhere = λ q other. ap (λ (Q : Pool). Q q) (pool-snoc z fresh h a) ∙ after-else z P a q (ne_eqb q place other);
         undo_elsewhere = λ q other. sym (ap (to_undo q) idle);
         count = let c = s.count place inside in let e = ap (to_undo place) idle in
-            let none : all_refs z (P place).phase ≡ 0 = ap (all_refs z) ok.1 ∙ sum-none z.lanes in
+            let none : all_refs z (P place).phase ≡ 0 = ap (all_refs z) ok.1 ∙ sum-none (callers z) in
             let new = ap (λ (x : Spot). all_refs z x.phase) at in
             let one = put-here (λ _. 0) lane (cond with_ref 1 0) lane refl in
-            let grown = sum-at z.lanes lane (put (λ _. 0) lane (cond with_ref 1 0)) (λ _. 0) below (λ x b other. put-else (λ _. 0) lane (cond with_ref 1 0) x other) in
-            let zeros = sum-none z.lanes in
+            let grown = sum-at (callers z) lane (put (λ _. 0) lane (cond with_ref 1 0)) (λ _. 0) below (λ x b other. put-else (λ _. 0) lane (cond with_ref 1 0) x other) in
+            let zeros = sum-none (callers z) in
             let d = f.0 in omega arith;
         state = (f.1 ∙ sym (ap (λ (x : Spot). bits_of x.phase) at), f.2 ∙ (st.1 ∙ sym (ap (λ (x : Spot). x.generation) at)));
         pinned = λ q here old more.
@@ -62,7 +62,7 @@ module _ (z : Shape) (w : Words) (h : List Act) (r : Lanes) (s : Rule z (moment 
         own_pinned = λ q e. absurd (cc e);
         own_owes = λ q g e. let bad : Nothing ≡ Owes q g = sym idle ∙ e in absurd (cc bad);
         owed = λ g e. let one = f.1 in let three : state_in m ≡ 3 = ap state_in e ∙ omega arith in absurd (omega arith);
-        few = λ x. let new = ap (λ (y : Spot). references_in y.phase x) at in let le = bit with_ref in dite (ℕ_discrete x lane)
+        few = λ x. let new = ap (λ (y : Spot). references_in y.phase x) at in let le = bit with_ref in let most = most-some z x in dite (ℕ_discrete x lane)
             (λ e. let one = put-here (λ _. 0) lane (cond with_ref 1 0) x e in omega arith) (λ d. let none = put-else (λ _. 0) lane (cond with_ref 1 0) x d in omega arith);
         home = act_keeps z w (put_at w.life place m) h r s.home lane Nothing a tt refl ok away tt;
       }

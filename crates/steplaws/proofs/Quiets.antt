@@ -1,6 +1,7 @@
 -- Steps that change neither a lifecycle word nor what the words stand for keep Count, State and Owed claim.
 use Rattle.std.proofs.Common.{◌≡◌, ◌⊎◌, ⊎_elim, ℕ, Bool, true, false, eqb, ◌&&◌, List, Option, refl, ap, sym, ◌∙◌, subst, arith}
 use Rattle.keybits.specs.declared.shape.Shape.{Shape}
+use Rattle.keybits.specs.Shapes.{callers}
 use Rattle.keybits.specs.Keys.{place_of, generation_of, is_key}
 use Rattle.keybits.proofs.CountLemmas.{sum-same}
 use Rattle.seqpool.specs.declared.act.Act.{Act}
@@ -76,16 +77,16 @@ still-key z P Q key h e = ⊎_elim
     (λ (i : ((Q (place_of key)).generation ≡ (P (place_of key)).generation) × IsIdle (P (place_of key)).phase × IsIdle (Q (place_of key)).phase).
     let a = i.1 in absurd (false_last (is_current z P key) (is_published (P (place_of key)).phase) a.no_row e)) h
 
-pub quiet_keeps : (z : Shape) (w : Words) (f : ℕ → ℕ) (g : ℕ → ℕ → ℕ) (h k : List Act) (r r' : Lanes) → Rule z (moment w h r) → IsLegal z k → Alike r.under r'.under
-    → ((q : ℕ) → Still (pool_after z h q) (pool_after z k q)) → Home z record { life = w.life; link = f; stack = g } k r' → Rule z (moment (record { life = w.life; link = f; stack = g }) k r')
-quiet_keeps z w f g h k r r' s legal u still homes = record {
+pub quiet_keeps : (z : Shape) (w : Words) (f : ℕ → ℕ) (g b : ℕ → ℕ → ℕ) (h k : List Act) (r r' : Lanes) → Rule z (moment w h r) → IsLegal z k → Alike r.under r'.under
+    → ((q : ℕ) → Still (pool_after z h q) (pool_after z k q)) → Home z record { life = w.life; link = f; stack = g; bits = b } k r' → Rule z (moment (record { life = w.life; link = f; stack = g; bits = b }) k r')
+quiet_keeps z w f g b h k r r' s legal u still homes = record {
   limits = s.limits;
   wide = s.wide;
   legal = legal;
   count = λ place inside. s.count place inside ∙ sym (
-      let a = sum-same z.lanes (λ lane. references_in (pool_after z k place).phase lane) (λ lane. references_in (pool_after z h place).phase lane)
+      let a = sum-same (callers z) (λ lane. references_in (pool_after z k place).phase lane) (λ lane. references_in (pool_after z h place).phase lane)
       (λ lane below. still-references (pool_after z h place) (pool_after z k place) lane (still place)) in
-      let b = sum-same z.lanes (λ lane. to_undo place (r'.under lane)) (λ lane. to_undo place (r.under lane)) (λ lane below. u.undo place lane) in
+      let b = sum-same (callers z) (λ lane. to_undo place (r'.under lane)) (λ lane. to_undo place (r.under lane)) (λ lane below. u.undo place lane) in
       omega arith);
   pinned = λ lane key below e. still-key z (pool_after z h) (pool_after z k) key (still (place_of key)) (s.pinned lane key below (u.pinned lane key e));
   state = λ place inside. let old = s.state place inside in (

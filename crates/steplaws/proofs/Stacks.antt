@@ -6,9 +6,9 @@ use Rattle.keybits.specs.Links.{Leads}
 use Rattle.keybits.specs.Homes.{times_stacked, AreHomeBy}
 use Rattle.keybits.proofs.CountLemmas.{count_if, sum-some}
 use Rattle.seqpool.specs.declared.act.Act.{Act}
-use Rattle.steplaws.specs.Facts.{Words, Lanes, home_in, Home}
+use Rattle.steplaws.specs.Facts.{Words, Lanes, lane_home, Home}
 use Rattle.keybits.proofs.ShapeLemmas.{is_place-parts}
-use Rattle.steplaws.proofs.HomePlaces.{home-parts}
+use Rattle.steplaws.proofs.HomePlaces.{home-parts, lane-part}
 
 -- a place on a stack of a shard: the lane whose stack it is, and the places on it
 pub record Stacked (z : Shape) (w : Words) (shard place : ℕ) : Type 0 where
@@ -37,9 +37,9 @@ stacked-by threads z w shard place homes a is =
       among = omega arith;
     }
 
-pub stacked : (z : Shape) (w : Words) (h : List Act) (r : Lanes) → Home z w h r → (shard place : ℕ) → home_in z h shard place ≡ true → Stacked z w shard place
+pub stacked : (z : Shape) (w : Words) (h : List Act) (r : Lanes) → Home z w h r → (shard place : ℕ) → lane_home z h shard place ≡ true → Stacked z w shard place
 stacked z w h r t shard place is =
-    let p = home-parts z h shard place is in
+    let p = home-parts z h shard place (lane-part z h shard place is).0 in
     let below : shard < z.lanes = subst (λ (n : ℕ). n < z.lanes) p.own (is_place-parts z place p.inside).0 in
     let a = t.stacks shard below in
-    stacked-by a.0 z w shard place (home_in z h shard) a.1 is
+    stacked-by a.0 z w shard place (lane_home z h shard) a.1 is

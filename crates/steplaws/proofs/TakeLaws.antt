@@ -13,7 +13,7 @@ use Rattle.seqpool.specs.Pool.{Spot, fresh, pool_after}
 use Rattle.seqpool.proofs.Growth.{legal-snoc}
 use Rattle.steplaws.specs.Facts.{put_at, put_two, Words, with_value, Lanes, with_chain, moment, Rule}
 use Rattle.steplaws.proofs.Updates.{at-here}
-use Rattle.steplaws.proofs.HomePlaces.{home-parts, has-some, has-none}
+use Rattle.steplaws.proofs.HomePlaces.{home-parts, has-some, has-none, lane-from}
 use Rattle.steplaws.proofs.Takes.{follow_keeps, thread, take_keeps, take_allowed, pool-on, pool-stays, taken-home}
 use Rattle.steplaws.proofs.Quiets.{alike-self, idle-with, idle-home, quiet_keeps}
 use Rattle.keybits.specs.declared.step.Kind.TheVariants as kinds
@@ -24,7 +24,7 @@ use Rattle.steplaws.specs.StepLaws.{TakeNoneLaw, TakeChainLaw, FollowLaw}
 pub follow_rule : (z : Shape) (w : Words) (h : List Act) (r : Lanes) → Rule z (moment w h r) → (lane p : ℕ) (more : List ℕ) → lane < z.lanes → r.chain lane ≡ p ∷ more
     → Rule z (moment w h (with_chain r lane more)) × Leads w.link lane (w.link p) more
 follow_rule z w h r s lane p more below is = let t = follow_keeps z w h r lane p more below is s.home in (
-  quiet_keeps z w w.link w.stack h h r (with_chain r lane more) s s.legal (alike-self r.under) (λ q. inl refl) t.0,
+  quiet_keeps z w w.link w.stack w.bits h h r (with_chain r lane more) s s.legal (alike-self r.under) (λ q. inl refl) t.0,
   t.1,
 )
 
@@ -39,8 +39,8 @@ take_rule z w h r s lane from below from_below apart some =
     let t = thread z w h r s.home lane from below from_below apart in record {
       places = t.taken;
       leads = t.leads;
-      stand = quiet_keeps z w w.link (put_two w.stack lane from 0) h (h ++ acts.Collect lane t.taken ∷ []) r (with_chain r lane t.taken) s
-          (legal-snoc z fresh h (acts.Collect lane t.taken) s.legal below (take_allowed z w h r s.home lane from below from_below apart t.taken t.leads t.once t.after some))
+      stand = quiet_keeps z w w.link (put_two w.stack lane from 0) w.bits h (h ++ acts.Collect lane t.taken ∷ []) r (with_chain r lane t.taken) s
+          (legal-snoc z fresh h (acts.Collect lane t.taken) s.legal (omega (arith, below)) (take_allowed z w h r s.home lane from below from_below apart t.taken t.leads t.once t.after some))
           (alike-self r.under)
           (λ q. dite (ℕ_discrete (times q t.taken) 0)
           (λ none. inl (pool-stays z w h r s.home lane from below from_below apart t.taken t.leads t.once t.after q (has-none q t.taken none)))
@@ -59,7 +59,7 @@ pub take-none-law : TakeNoneLaw
 take-none-law z m lane from s below from_below apart none = (
   keeps z m kinds.Take (Stack lane from) 0 None m.lanes refl tt (rule-same z m.words m.history m.lanes (Stack lane from) 0 (sym none) s),
   λ place is same.
-      let t = stacked z m.words m.history m.lanes s.home lane place is in
+      let t = stacked z m.words m.history m.lanes s.home lane place (lane-from z m.history lane place is (subst (λ (l : ℕ). l < z.lanes) (sym same) from_below)) in
       let at_from : t.lane ≡ from = sym (s.home.returned lane t.lane below t.below t.apart t.thread t.leads place t.among) ∙ same in
       let empty : t.thread ≡ [] = leads-zero m.words.link lane (m.words.stack lane t.lane) t.thread (ap (m.words.stack lane) at_from ∙ none) t.leads in
       let bad : 0 < times place [] = subst (λ (xs : List ℕ). 0 < times place xs) empty t.among in

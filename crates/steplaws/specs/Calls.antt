@@ -7,8 +7,8 @@ use Rattle.keybits.specs.declared.step.Word.{Word}
 use Rattle.keybits.specs.declared.step.Word.TheVariants.{Life, Link, Stack}
 use Rattle.keybits.specs.declared.step.Step.{Step}
 use Rattle.keybits.specs.Places.{shard_of}
-use Rattle.keybits.specs.Keys.{key_number, place_of, generation_of, is_key}
-use Rattle.keybits.specs.Words.{state_in, count_in, generation_in, claimable}
+use Rattle.keybits.specs.Keys.{key_number, place_of, is_key}
+use Rattle.keybits.specs.Words.{state_in, generation_in, claimable}
 pub use Rattle.keybits.specs.Words.{is_hit, owes_claim}
 use Rattle.keybits.specs.Links.{link_to, linked_place, Leads}
 use Rattle.seqpool.specs.declared.act.Act.{Act}

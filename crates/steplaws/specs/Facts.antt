@@ -1,10 +1,11 @@
 -- The moment between two steps, and the rule that holds of it: Count, State, Owed claim and Home.
-use Rattle.std.specs.Prelude.{◌≡◌, ◌≢◌, ◌==◌, ◌&&◌, ◌⊎◌, ℕ, ◌+◌, ◌^◌, ◌<◌, ◌≤◌, Bool, true, false, List, [], ◌∷◌, Option, Some, None, if◌then◌else◌}
+use Rattle.std.specs.Prelude.{◌≡◌, ◌≢◌, ◌==◌, ◌&&◌, ◌⊎◌, ℕ, ◌+◌, ◌^◌, ◌<◌, ◌≤◌, Bool, true, false, nat_lt, nat_le, List, [], ◌∷◌, Option, Some, None, if◌then◌else◌}
 use Rattle.keybits.specs.declared.shape.Shape.{Shape}
 use Rattle.keybits.specs.declared.step.Word.{Word}
 use Rattle.keybits.specs.declared.step.Word.TheVariants.{Life, Link, Stack}
 use Rattle.keybits.specs.Places.{shard_of}
-use Rattle.keybits.specs.Shapes.{IsShape, is_place}
+use Rattle.keybits.specs.Shapes.{IsShape, is_place, callers}
+use Rattle.keybits.specs.Rows.{row_word}
 use Rattle.keybits.specs.Keys.{place_of}
 use Rattle.keybits.specs.Counts.{sum_below, times}
 use Rattle.keybits.specs.Words.{state_in, count_in, generation_in, claimable}
@@ -26,11 +27,13 @@ put_two f i k x j m = if (j == i) && (m == k) then x else f j m
 
 -- ---- the moment
 
--- the values of the pool's words: the lifecycle and the link word of each place, and the stack word of each shard and lane
+-- the values of the pool's words: the lifecycle and the link word of each place, the stack word of each shard and lane, and the word of
+-- each shard's row of bits
 pub record Words : Type 0 where
   pub life : ℕ → ℕ
   pub link : ℕ → ℕ
   pub stack : ℕ → ℕ → ℕ
+  pub bits : ℕ → ℕ → ℕ
 
 -- the value of a word
 abbrev pub value_of : Words → Word → ℕ
@@ -40,9 +43,17 @@ value_of words (Stack shard lane) = words.stack shard lane
 
 -- the words, but this value in the one
 abbrev pub with_value : Words → Word → ℕ → Words
-with_value words (Life place) value = record { life = put_at words.life place value; link = words.link; stack = words.stack }
-with_value words (Link place) value = record { life = words.life; link = put_at words.link place value; stack = words.stack }
-with_value words (Stack shard lane) value = record { life = words.life; link = words.link; stack = put_two words.stack shard lane value }
+with_value words (Life place) value =
+    record { life = put_at words.life place value; link = words.link; stack = words.stack; bits = words.bits }
+with_value words (Link place) value =
+    record { life = words.life; link = put_at words.link place value; stack = words.stack; bits = words.bits }
+with_value words (Stack shard lane) value =
+    record { life = words.life; link = words.link; stack = put_two words.stack shard lane value; bits = words.bits }
+
+-- the words, but this value in the word of a row
+abbrev pub with_bits : Words → ℕ → ℕ → ℕ → Words
+with_bits words shard row value =
+    record { life = words.life; link = words.link; stack = words.stack; bits = put_two words.bits shard row value }
 
 -- the lanes: what each has under way; for each shard and lane, the word that the lane last pushed on its stack there;
 -- and the places of each lane's taken chain that are still to be followed
@@ -83,16 +94,16 @@ to_undo place (Undo key hit) = if place_of key == place then 1 else 0
 to_undo place (Owes at generation) = 0
 to_undo place (Returns at linked failed) = 0
 
--- Count: a word's count is the references of all lanes plus the ENTERs to undo
+-- Count: a word's count is the references of all callers plus the ENTERs to undo
 abbrev pub Count : Shape → Words → List Act → (ℕ → Pending) → Type 0
 Count z words history under = (place : ℕ) → is_place z place ≡ true
     → count_in (words.life place)
-    ≡ sum_below z.lanes (λ lane. references_in (pool_after z history place).phase lane) + sum_below z.lanes
+    ≡ sum_below (callers z) (λ lane. references_in (pool_after z history place).phase lane) + sum_below (callers z)
     (λ lane. to_undo place (under lane))
 
 -- the key of a clear that hit is in the map until its ENTER is undone
 abbrev pub Pinned : Shape → List Act → (ℕ → Pending) → Type 0
-Pinned z history under = (lane key : ℕ) → lane < z.lanes → under lane ≡ Undo key true → has_key z (pool_after z history) key ≡ true
+Pinned z history under = (lane key : ℕ) → lane < callers z → under lane ≡ Undo key true → has_key z (pool_after z history) key ≡ true
 
 -- the state bits that stand for a phase: PRESENT for an unmarked row, MARKED for a marked one, RETIRED for a retired place, and else IDLE
 abbrev pub bits_of : Phase → ℕ
@@ -111,11 +122,15 @@ State z words history = (place : ℕ) → is_place z place ≡ true
 -- Owed claim: where a word is marked with count 0, a lane owes its claim
 abbrev pub OwedClaim : Shape → Words → (ℕ → Pending) → Type 0
 OwedClaim z words under = (place generation : ℕ) → is_place z place ≡ true → words.life place ≡ claimable generation
-    → (lane : ℕ) × (lane < z.lanes) × (under lane ≡ Owes place generation)
+    → (lane : ℕ) × (lane < callers z) × (under lane ≡ Owes place generation)
 
 -- no lane has more references to a key than this
 abbrev pub most_references : ℕ
 most_references = 1048575
+
+-- and of a guest no more than one
+abbrev pub most_of : Shape → ℕ → ℕ
+most_of z lane = if nat_lt lane z.lanes then most_references else 1
 
 -- ---- Home
 
@@ -148,6 +163,13 @@ returners_after returners (act ∷ more) = returners_after (returner_after act r
 -- the lane that returned the place last; 0 where none did
 abbrev pub returner : List Act → ℕ → ℕ
 returner history = returners_after (λ _. 0) history
+
+-- the place is home, and a lane returned it; or a guest did
+abbrev pub lane_home : Shape → List Act → ℕ → ℕ → Bool
+lane_home z history shard place = home_in z history shard place && nat_lt (returner history place) z.lanes
+
+abbrev pub guest_home : Shape → List Act → ℕ → ℕ → Bool
+guest_home z history shard place = home_in z history shard place && nat_le z.lanes (returner history place)
 
 -- the word is the expected top that was linked, if one was
 abbrev pub IsLinked : ℕ → Option ℕ → Type 0
@@ -187,8 +209,8 @@ pub record IsChain (z : Shape) (words : Words) (history : List Act) (lane : ℕ)
 
 -- Home
 pub record Home (z : Shape) (words : Words) (history : List Act) (lanes : Lanes) : Type 0 where
-  -- the places threaded on the stacks of a shard are its home places, each once
-  pub stacks : (shard : ℕ) → shard < z.lanes → AreHome z shard words.link (words.stack shard) (home_in z history shard)
+  -- the places threaded on the stacks of a shard are its home places that lanes returned, each once
+  pub stacks : (shard : ℕ) → shard < z.lanes → AreHome z shard words.link (words.stack shard) (lane_home z history shard)
   -- those on a lane's stack were returned last by that lane
   pub returned : (shard lane : ℕ) → shard < z.lanes → lane < z.lanes → lane ≢ shard
       → (thread : List ℕ) → Leads words.link shard (words.stack shard lane) thread → (place : ℕ) → 0 < times place thread
@@ -196,7 +218,9 @@ pub record Home (z : Shape) (words : Words) (history : List Act) (lanes : Lanes)
   -- a stack word is 0 or the word that its lane last pushed there
   pub last_pushed : (shard lane : ℕ) → shard < z.lanes → lane < z.lanes → lane ≢ shard
       → (words.stack shard lane ≡ 0) ⊎ (words.stack shard lane ≡ lanes.pushed shard lane)
-  pub returning : (lane : ℕ) → lane < z.lanes → IsReturning z words history lane (lanes.under lane)
+  -- the bits of a row are set of its home places that guests returned
+  pub bits : (shard row : ℕ) → shard < z.lanes → words.bits shard row ≡ row_word shard row (guest_home z history shard)
+  pub returning : (lane : ℕ) → lane < callers z → IsReturning z words history lane (lanes.under lane)
   pub chained : (lane : ℕ) → lane < z.lanes → IsChain z words history lane (lanes.chain lane)
 
 -- ---- the rule
@@ -212,4 +236,4 @@ pub record Rule (z : Shape) (m : Moment) : Type 0 where
   pub state : State z m.words m.history
   pub owed : OwedClaim z m.words m.lanes.under
   pub home : Home z m.words m.history m.lanes
-  pub few : (place lane : ℕ) → references_in (pool_after z m.history place).phase lane ≤ most_references
+  pub few : (place lane : ℕ) → references_in (pool_after z m.history place).phase lane ≤ most_of z lane

@@ -1,7 +1,7 @@
 -- What holds at the start, at a moment at which the rule holds, and of what a lane alone changes.
 use Rattle.std.specs.Prelude.{◌≡◌, ◌≢◌, ◌↔◌, ℕ, ◌^◌, ◌<◌, true, List, [], ◌++◌}
 use Rattle.keybits.specs.declared.shape.Shape.{Shape}
-use Rattle.keybits.specs.Shapes.{IsShape, is_place}
+use Rattle.keybits.specs.Shapes.{IsShape, is_place, callers}
 use Rattle.keybits.specs.Words.{fresh_word, count_in}
 use Rattle.seqpool.specs.declared.act.Act.{Act}
 use Rattle.seqpool.specs.Pool.{with, references_in, references, is_marked, pool_after, IsLegal}
@@ -13,6 +13,7 @@ use Rattle.steplaws.specs.Facts.{Words, Lanes, Moment, moment, home_in, returner
 pub record AreFirst (z : Shape) (words : Words) : Type 0 where
   pub life : (place : ℕ) → is_place z place ≡ true → words.life place ≡ fresh_word
   pub stack : (shard lane : ℕ) → words.stack shard lane ≡ 0
+  pub bits : (shard row : ℕ) → words.bits shard row ≡ 0
 
 -- the lanes at the start: none has anything under way, pushed or taken
 abbrev pub first_lanes : Lanes
@@ -24,9 +25,9 @@ StartLaw = (z : Shape) (words : Words) → IsShape z → z.last_generation < 2 ^
 
 -- where no lane has anything under way, some lane has a reference to each marked key
 abbrev pub QuietLaw : Type 0
-QuietLaw = (z : Shape) (m : Moment) → Rule z m → ((lane : ℕ) → lane < z.lanes → m.lanes.under lane ≡ Nothing)
+QuietLaw = (z : Shape) (m : Moment) → Rule z m → ((lane : ℕ) → lane < callers z → m.lanes.under lane ≡ Nothing)
     → (place : ℕ) → is_place z place ≡ true → is_marked (pool_after z m.history place).phase ≡ true
-    → (lane : ℕ) × (lane < z.lanes) × (0 < references_in (pool_after z m.history place).phase lane)
+    → (lane : ℕ) × (lane < callers z) × (0 < references_in (pool_after z m.history place).phase lane)
 
 -- where a word's count is 0, no lane has a reference to the key of its place
 abbrev pub CountLaw : Type 0
@@ -36,7 +37,7 @@ CountLaw = (z : Shape) (m : Moment) → Rule z m → (place : ℕ) → is_place 
 -- a home place of a shard was returned last by a lane of the shape, and another than the shard's
 abbrev pub ReturnerLaw : Type 0
 ReturnerLaw = (z : Shape) (m : Moment) → Rule z m → (shard place : ℕ) → home_in z m.history shard place ≡ true
-    → (returner m.history place < z.lanes) × (returner m.history place ≢ shard)
+    → (returner m.history place < callers z) × (returner m.history place ≢ shard)
 
 -- a home place, and who returned it last, stay while the shard's lane makes no act
 abbrev pub HomeStaysLaw : Type 0

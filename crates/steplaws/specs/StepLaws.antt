@@ -1,13 +1,14 @@
 -- The laws of the steps: at a moment at which the rule holds, each kind of step finds a word at which it may be made, its act is allowed,
 -- and the rule holds of the moment after it.
-use Rattle.std.specs.Prelude.{◌≡◌, ◌≢◌, ◌==◌, ℕ, ◌+◌, ◌-◌, ◌<◌, ◌≤◌, Bool, true, false, List, [], ◌∷◌, ◌++◌, Option, Some, None, if◌then◌else◌}
+use Rattle.std.specs.Prelude.{◌≡◌, ◌≢◌, ◌==◌, ℕ, ◌+◌, ◌-◌, ◌/◌, ◌%◌, ◌^◌, ◌<◌, ◌≤◌, Bool, true, false, List, [], ◌∷◌, ◌++◌, Option, Some, None, if◌then◌else◌}
 use Rattle.keybits.specs.declared.shape.Shape.{Shape}
 use Rattle.keybits.specs.declared.step.Kind.{Kind}
 use Rattle.keybits.specs.declared.step.Kind.TheVariants as kinds
 use Rattle.keybits.specs.declared.step.Word.{Word}
 use Rattle.keybits.specs.declared.step.Word.TheVariants.{Life, Link, Stack}
 use Rattle.keybits.specs.Places.{shard_of}
-use Rattle.keybits.specs.Shapes.{is_place}
+use Rattle.keybits.specs.Shapes.{is_place, callers}
+use Rattle.keybits.specs.Rows.{row_places}
 use Rattle.keybits.specs.Keys.{key_number, place_of, is_key}
 use Rattle.keybits.specs.Counts.{times}
 use Rattle.keybits.specs.Words.{word_with, state_in, count_in, generation_in, claimable}
@@ -19,7 +20,7 @@ use Rattle.seqpool.specs.Pool.{with, references, is_current, lane_of, Allowed, p
 use Rattle.steplaws.specs.declared.pending.Pending.{Pending}
 use Rattle.steplaws.specs.declared.pending.Pending.TheVariants.{Nothing, Undo, Owes, Returns}
 use Rattle.steplaws.specs.Calls.{is_hit, owes_claim}
-use Rattle.steplaws.specs.Facts.{Lanes, Moment, moment, value_of, with_value, with_under, with_chain, with_pushed, most_references, home_in, returner, Rule}
+use Rattle.steplaws.specs.Facts.{Lanes, Moment, moment, value_of, with_value, with_bits, with_under, with_chain, with_pushed, most_of, home_in, returner, Rule}
 
 -- ---- what each law says of its step
 
@@ -35,7 +36,7 @@ moment_after m word value act lanes = moment (with_value m.words word value) (wi
 -- the act, if there is one, is by a lane of the shape, and allowed after the history
 abbrev pub IsAllowed : Shape → List Act → Option Act → Type 0
 IsAllowed z history None = Unit {0}
-IsAllowed z history (Some act) = (lane_of act < z.lanes) × Allowed z (pool_after z history) act
+IsAllowed z history (Some act) = (lane_of act < callers z) × Allowed z (pool_after z history) act
 
 -- a count that the kind of step raises stays in its field
 abbrev pub HasRoom : Kind → ℕ → Type 0
@@ -53,16 +54,16 @@ pub record Keeps (z : Shape) (m : Moment) (kind : Kind) (word : Word) (value : �
   -- the rule holds of the moment after it
   pub rule : Rule z (moment_after m word value act lanes)
 
--- a lane of the shape has this under way
+-- a caller of the shape has this under way
 abbrev pub HasUnderWay : Shape → Moment → ℕ → Pending → Type 0
-HasUnderWay z m lane pending = (lane < z.lanes) × (m.lanes.under lane ≡ pending)
+HasUnderWay z m lane pending = (lane < callers z) × (m.lanes.under lane ≡ pending)
 
 -- ---- ENTER
 
 -- ENTER of a get that hits: the reply is a content, and the lane has one reference more
 abbrev pub GetHitsLaw : Type 0
 GetHitsLaw = (z : Shape) (m : Moment) (lane key : ℕ) → Rule z m → HasUnderWay z m lane Nothing → is_key z key ≡ true
-    → references z (pool_after z m.history) lane key < most_references
+    → references z (pool_after z m.history) lane key < most_of z lane
     → let word = m.words.life (place_of key) in is_hit key word ≡ true
     → (content : List ℕ) × Keeps z m kinds.Enter (Life (place_of key)) (word + 4) (Some (acts.Get lane key (Some content)))
     (with_under m.lanes lane Nothing)
@@ -178,7 +179,7 @@ LinkLaw = (z : Shape) (m : Moment) (lane place top : ℕ) (linked : Option ℕ) 
 
 -- PUSH that finds the top that was linked: the place is home
 abbrev pub PushSucceedsLaw : Type 0
-PushSucceedsLaw = (z : Shape) (m : Moment) (lane place top : ℕ) (failed : Bool) → Rule z m
+PushSucceedsLaw = (z : Shape) (m : Moment) (lane place top : ℕ) (failed : Bool) → Rule z m → lane < z.lanes
     → HasUnderWay z m lane (Returns place (Some top) failed)
     → m.words.stack (shard_of place) lane ≡ top
     → Keeps z m (kinds.Push top (link_to place)) (Stack (shard_of place) lane) (link_to place) (Some (acts.Home lane place))
@@ -186,7 +187,7 @@ PushSucceedsLaw = (z : Shape) (m : Moment) (lane place top : ℕ) (failed : Bool
 
 -- PUSH that finds another word than the one that the lane last pushed: it finds 0, as the stack was taken
 abbrev pub PushFailsLaw : Type 0
-PushFailsLaw = (z : Shape) (m : Moment) (lane place : ℕ) (failed : Bool) → Rule z m
+PushFailsLaw = (z : Shape) (m : Moment) (lane place : ℕ) (failed : Bool) → Rule z m → lane < z.lanes
     → let top = m.lanes.pushed (shard_of place) lane in HasUnderWay z m lane (Returns place (Some top) failed)
     → m.words.stack (shard_of place) lane ≢ top
     → (m.words.stack (shard_of place) lane ≡ 0)
@@ -194,7 +195,7 @@ PushFailsLaw = (z : Shape) (m : Moment) (lane place : ℕ) (failed : Bool) → R
 
 -- PUSH after one that failed, and after a LINK to 0: it finds 0, and so succeeds
 abbrev pub PushAgainLaw : Type 0
-PushAgainLaw = (z : Shape) (m : Moment) (lane place : ℕ) → Rule z m → HasUnderWay z m lane (Returns place (Some 0) true)
+PushAgainLaw = (z : Shape) (m : Moment) (lane place : ℕ) → Rule z m → lane < z.lanes → HasUnderWay z m lane (Returns place (Some 0) true)
     → (m.words.stack (shard_of place) lane ≡ 0)
     × Keeps z m (kinds.Push 0 (link_to place)) (Stack (shard_of place) lane) (link_to place) (Some (acts.Home lane place))
     (with_pushed m.lanes (shard_of place) lane (link_to place))
@@ -220,3 +221,35 @@ abbrev pub FollowLaw : Type 0
 FollowLaw = (z : Shape) (m : Moment) (lane place : ℕ) (more : List ℕ) → Rule z m → lane < z.lanes → m.lanes.chain lane ≡ place ∷ more
     → Leads m.words.link lane (m.words.link place) more × (m.words.link place ≤ 65536)
     × Keeps z m kinds.Follow (Link place) (m.words.link place) None (with_chain m.lanes lane more)
+
+-- ---- RETURN and GATHER
+
+-- a step that leaves this value in the word of a row and makes this act or none, after which the lanes are these
+pub record KeepsBits (z : Shape) (m : Moment) (shard row value : ℕ) (act : Option Act) (lanes : Lanes) : Type 0 where
+  -- its act is allowed
+  pub allowed : IsAllowed z m.history act
+  -- the rule holds of the moment after it
+  pub rule : Rule z (moment (with_bits m.words shard row value) (with_act m.history act) lanes)
+
+-- the row of a place, and its bit there
+abbrev pub row_of : ℕ → ℕ
+row_of place = place % 65536 / 64
+
+abbrev pub bit_of : ℕ → ℕ
+bit_of place = place % 64
+
+-- RETURN by a guest of a place to return: its bit, which wasn't set, is added to the word of its row, and the place is home
+abbrev pub ReturnLaw : Type 0
+ReturnLaw = (z : Shape) (m : Moment) (lane place : ℕ) → Rule z m → HasUnderWay z m lane (Returns place None false) → z.lanes ≤ lane
+    → let word = m.words.bits (shard_of place) (row_of place) in
+    (word + 2 ^ bit_of place < 2 ^ 64)
+    × KeepsBits z m (shard_of place) (row_of place) (word + 2 ^ bit_of place) (Some (acts.Home lane place))
+    (with_under m.lanes lane Nothing)
+
+-- GATHER of a row of the lane's own shard: the act is Collect of just the places whose bits are set, if there are some
+abbrev pub GatherLaw : Type 0
+GatherLaw = (z : Shape) (m : Moment) (lane row : ℕ) → Rule z m → lane < z.lanes
+    → let word = m.words.bits lane row in
+    (word < 2 ^ 64)
+    × (word ≡ 0 → KeepsBits z m lane row 0 None m.lanes)
+    × (word ≢ 0 → KeepsBits z m lane row 0 (Some (acts.Collect lane (row_places lane row word 64))) m.lanes)

@@ -9,6 +9,6 @@ mod step_laws;
 pub use moment_laws::{count_law, home_law, own_law, quiet_law, start_law};
 pub use pending::Pending;
 pub use step_laws::{
-    claim_law, enter_law, follow_law, leave_law, link_law, mark_law, publish_law, push_law,
-    take_law,
+    claim_law, enter_law, follow_law, gather_law, leave_law, link_law, mark_law, publish_law,
+    push_law, return_law, take_law,
 };

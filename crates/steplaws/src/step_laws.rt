@@ -4,7 +4,7 @@
 
 ghost use Rattle.steplaws.specs.StepLaws.{GetHitsLaw, GetMissesLaw, ClearHitsLaw, ClearMissesLaw, ReleaseLaw, UndoLaw, PublishLaw, MarkLaw};
 ghost use Rattle.steplaws.specs.StepLaws.{ClaimOwnLaw, ClaimOtherLaw, ClaimLastLaw, ClaimFailsLaw, LinkLaw, PushSucceedsLaw, PushFailsLaw, PushAgainLaw};
-ghost use Rattle.steplaws.specs.StepLaws.{TakeNoneLaw, TakeChainLaw, FollowLaw};
+ghost use Rattle.steplaws.specs.StepLaws.{TakeNoneLaw, TakeChainLaw, FollowLaw, ReturnLaw, GatherLaw};
 
 /// ENTER adds one to the count. A get that hits shows a content, and its lane has one reference more; every other ENTER
 /// is to be undone. Until a clear that hit has undone its ENTER, the key stays in the map.
@@ -64,4 +64,14 @@ pub fn take_law()
 /// FOLLOW comes to the next place of the taken chain.
 pub fn follow_law()
     ensures { FollowLaw }
+{}
+
+/// RETURN, by a guest, of a place to return: it adds the place's bit to its row's word, and the place is home.
+pub fn return_law()
+    ensures { ReturnLaw }
+{}
+
+/// GATHER of a row of the lane's own shard collects just the places whose bits are set.
+pub fn gather_law()
+    ensures { GatherLaw }
 {}

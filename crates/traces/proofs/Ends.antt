@@ -140,7 +140,7 @@ module _ (z : Shape) (m : Moment) (lane : ℕ) where
         undo_leaves : (key : ℕ) (hit : Bool) (act : Option Act) → is_place z (place_of key) ≡ true → m.lanes.under lane ≡ Undo key hit
             → before ≡ m.words.life (place_of key) → act ≡ None → Left (place_of key) act
         undo_leaves key hit act inside is found made = subst (Left (place_of key)) (sym made)
-            (left_by (place_of key) None found (undo-law z m lane key hit rule (below, is) inside))
+            (left_by (place_of key) None found (undo-law z m lane key hit rule (omega (arith, below), is) inside))
 
         leave_cases : (call : Call) (act : Option Act) → is_place z (place_of (key_in call)) ≡ true → IsLeaving z m lane call []
             → before ≡ m.words.life (place_of (key_in call)) → LeaveMakes (record { shape = z; lane = lane; pushed = pushed }) call act
@@ -148,7 +148,7 @@ module _ (z : Shape) (m : Moment) (lane : ℕ) where
         leave_cases (Publishing key content with_ref) act inside leaving found made = absurd leaving
         leave_cases (Getting key) act inside leaving found made = undo_leaves key leaving.0 act inside leaving.1 found made
         leave_cases (Releasing key) act inside leaving found made = subst (Left (place_of key)) (sym made)
-            (left_by (place_of key) (Some (acts.Release lane key)) found (release-law z m lane key rule (below, leaving.0) leaving.1))
+            (left_by (place_of key) (Some (acts.Release lane key)) found (release-law z m lane key rule (omega (arith, below), leaving.0) leaving.1))
         leave_cases (Clearing key) act inside leaving found made = undo_leaves key leaving.0 act inside leaving.1 found made
         leave_cases (Creating own chain opened) act inside leaving found made = absurd leaving
 
@@ -168,20 +168,20 @@ module _ (z : Shape) (m : Moment) (lane : ℕ) where
           claim_cases false b d act miss last own change made =
               subst (λ (t : ℕ × Option Act). Kept (Life place) t.0 t.1 Nothing pushed) (λ i. (sym (change ∙ found) i, sym made i))
               (unpushed (kinds.Claim g) (Life place) (m.words.life place) None Nothing
-              (claim-fails-law z m lane place g rule (below, owes) inside (λ hit. eqb-false before (claimable g) miss (found ∙ hit))))
+              (claim-fails-law z m lane place g rule (omega (arith, below), owes) inside (λ hit. eqb-false before (claimable g) miss (found ∙ hit))))
           claim_cases true true d act hit last own change made =
               let is : before ≡ claimable g = eqb-true before (claimable g) hit in
               claimed_by (word_with 2 0 g) act Nothing (omega arith) made
-              (claim-last-law z m lane place g rule (below, owes) inside (eqb-true g z.last_generation last) (sym found ∙ is))
+              (claim-last-law z m lane place g rule (omega (arith, below), owes) inside (eqb-true g z.last_generation last) (sym found ∙ is))
           claim_cases true false true act hit less own change made =
               let is : before ≡ claimable g = eqb-true before (claimable g) hit in
               claimed_by (word_with 0 0 (g + 1)) act Nothing (omega arith) made
-              (claim-own-law z m lane place g rule (below, owes) inside
+              (claim-own-law z m lane place g rule (omega (arith, below), owes) inside
               (eqb-false g z.last_generation less) (eqb-true (shard_of place) lane own) (sym found ∙ is))
           claim_cases true false false act hit less other change made =
               let is : before ≡ claimable g = eqb-true before (claimable g) hit in
               claimed_by (word_with 0 0 (g + 1)) act (Returns place None false) (omega arith) made
-              (claim-other-law z m lane place g rule (below, owes) inside
+              (claim-other-law z m lane place g rule (omega (arith, below), owes) inside
               (eqb-false g z.last_generation less) (eqb-false (shard_of place) lane other) (sym found ∙ is))
 
         -- LINK
@@ -191,7 +191,7 @@ module _ (z : Shape) (m : Moment) (lane : ℕ) where
         link_leads linked failed top after act is change made =
             subst (λ (t : ℕ × Option Act). Kept (Link place) t.0 t.1 (Returns place (Some t.0) failed) pushed) (λ i. (sym change i, sym made i))
             (unpushed (kinds.Link top) (Link place) top None (Returns place (Some top) failed)
-            (link-law z m lane place top linked failed rule (below, is)))
+            (link-law z m lane place top linked failed rule (omega (arith, below), is)))
 
         -- PUSH
         module _ (top before after : ℕ) (act : Option Act) (found : before ≡ m.words.stack (shard_of place) lane) where
@@ -211,10 +211,10 @@ module _ (z : Shape) (m : Moment) (lane : ℕ) where
               → after ≡ cond a (link_to place) before → act ≡ cond a (Some (acts.Home lane place)) None
               → Kept (Stack shard lane) after act (cond a Nothing (Returns place None true)) (cond a (put pushed shard (link_to place)) pushed)
           push_cases true failed is last hit change made = pushed_to (link_to place) (sym change) made
-              (push-succeeds-law z m lane place top failed rule (below, is) (sym found ∙ eqb-true before top hit))
+              (push-succeeds-law z m lane place top failed rule below (omega (arith, below), is) (sym found ∙ eqb-true before top hit))
           push_cases false failed is last miss change made =
               let is_last : top ≡ m.lanes.pushed shard lane = sym (same shard ∙ last) in
-              let law = push-fails-law z m lane place failed rule (below, is ∙ ap (λ (t : ℕ). Returns place (Some t) failed) is_last)
+              let law = push-fails-law z m lane place failed rule below (omega (arith, below), is ∙ ap (λ (t : ℕ). Returns place (Some t) failed) is_last)
               (λ e. eqb-false before top miss (found ∙ (e ∙ sym is_last))) in
               subst (λ (t : ℕ × Option Act). Kept (Stack shard lane) t.0 t.1 (Returns place None true) pushed)
               (λ i. (sym (change ∙ (found ∙ law.0)) i, sym made i))
@@ -225,9 +225,9 @@ module _ (z : Shape) (m : Moment) (lane : ℕ) where
               → after ≡ cond a (link_to place) before → act ≡ cond a (Some (acts.Home lane place)) None
               → Kept (Stack shard lane) after act Nothing (cond a (put pushed shard (link_to place)) pushed)
           push_again true is none hit change made = pushed_to (link_to place) (sym change) made
-              (push-succeeds-law z m lane place top true rule (below, is ∙ ap (λ (t : ℕ). Returns place (Some t) true) (sym none))
+              (push-succeeds-law z m lane place top true rule below (omega (arith, below), is ∙ ap (λ (t : ℕ). Returns place (Some t) true) (sym none))
               (sym found ∙ (eqb-true before 0 hit ∙ sym none)))
-          push_again false is none miss change made = absurd (eqb-false before 0 miss (found ∙ (push-again-law z m lane place rule (below, is)).0))
+          push_again false is none miss change made = absurd (eqb-false before 0 miss (found ∙ (push-again-law z m lane place rule below (omega (arith, below), is)).0))
 
 -- ---- an END
 

@@ -1,5 +1,5 @@
 -- Every next step of a lane can be made: it finds a word at which its kind may be made, and its act is allowed.
-use Rattle.std.proofs.Common.{◌≡◌, ◌≢◌, ℕ, ◌+◌, ◌-◌, ◌<◌, Bool, true, false, not, cond, eqb, ◌&&◌, List, [], ◌∷◌, ◌++◌, refl, ap, sym, ◌∙◌, subst, append-nil, eq-eqb, ⊎_elim, Option, Some, None}
+use Rattle.std.proofs.Common.{arith, ◌≡◌, ◌≢◌, ℕ, ◌+◌, ◌-◌, ◌<◌, Bool, true, false, not, cond, eqb, ◌&&◌, List, [], ◌∷◌, ◌++◌, refl, ap, sym, ◌∙◌, subst, append-nil, eq-eqb, ⊎_elim, Option, Some, None}
 use Rattle.std.proofs.lemmas.Bool.{eqb-true, eqb-false}
 use Rattle.keybits.specs.declared.shape.Shape.{Shape}
 use Rattle.keybits.specs.declared.step.Kind.{Kind}
@@ -19,8 +19,9 @@ use Rattle.seqpool.specs.declared.act.Act.TheVariants as acts
 use Rattle.seqpool.specs.Pool.{references, pool_after, IsLegal}
 use Rattle.steplaws.specs.declared.pending.Pending.TheVariants.{Nothing, Undo, Owes, Returns}
 use Rattle.steplaws.specs.Calls.{Call, Publishing, Getting, Releasing, Clearing, Creating, Caller, Aim, aim, is_hit, owes_claim, is_claimed, first_lane, end_next, mark_next, take_next, next_step, AreSteps, key_in, KindMakes}
-use Rattle.steplaws.specs.Facts.{most_references, value_of, Lanes, Moment, moment, Rule}
+use Rattle.steplaws.specs.Facts.{most_of, value_of, Lanes, Moment, moment, Rule}
 use Rattle.steplaws.specs.StepLaws.{HasRoom, Keeps, IsFilling}
+use Rattle.steplaws.proofs.Lives.{most-lane}
 use Rattle.steplaws.proofs.Enters.{get-hits-law, get-misses-law, clear-hits-law, clear-misses-law}
 use Rattle.steplaws.proofs.Leaves.{undo-law, release-law}
 use Rattle.steplaws.proofs.Publishes.{publish-law}
@@ -65,13 +66,13 @@ module _ (z : Shape) (m : Moment) (lane : ℕ) (pushed : ℕ → ℕ) (rule : Ru
   can_leave (Publishing key content with_ref) inside leaving next is = absurd leaving
   can_leave (Getting key) inside (hit, under) next is =
       can_by (Getting key) kinds.Leave (Life (place_of key)) (m.words.life (place_of key) - 4) None _ next is
-      (undo-law z m lane key hit rule (below, under) inside) refl
+      (undo-law z m lane key hit rule (omega (arith, below), under) inside) refl
   can_leave (Releasing key) inside (under, some) next is =
       can_by (Releasing key) kinds.Leave (Life (place_of key)) (m.words.life (place_of key) - 4) (Some (acts.Release lane key)) _ next is
-      (release-law z m lane key rule (below, under) some) refl
+      (release-law z m lane key rule (omega (arith, below), under) some) refl
   can_leave (Clearing key) inside (hit, under) next is =
       can_by (Clearing key) kinds.Leave (Life (place_of key)) (m.words.life (place_of key) - 4) None _ next is
-      (undo-law z m lane key hit rule (below, under) inside) refl
+      (undo-law z m lane key hit rule (omega (arith, below), under) inside) refl
   can_leave (Creating own chain opened) inside leaving next is = absurd leaving
 
   module _ (call : Call) (inside : is_place z (place_of (key_in call)) ≡ true) (same : (shard : ℕ) → m.lanes.pushed shard lane ≡ pushed shard) where
@@ -88,26 +89,26 @@ module _ (z : Shape) (m : Moment) (lane : ℕ) (pushed : ℕ → ℕ) (rule : Ru
           → Can call next
       claim_by false b d miss last own =
           can_by call (kinds.Claim g) (Life place) (m.words.life place) None _ next is
-          (claim-fails-law z m lane place g rule (below, owes) inside (eqb-false (m.words.life place) (claimable g) miss)) (claim_makes false miss)
+          (claim-fails-law z m lane place g rule (omega (arith, below), owes) inside (eqb-false (m.words.life place) (claimable g) miss)) (claim_makes false miss)
       claim_by true true d hit last own =
           can_by call (kinds.Claim g) (Life place) (word_with 2 0 g) (Some (acts.Reclaim lane (key_number z.tag place g))) _ next is
-          (claim-last-law z m lane place g rule (below, owes) inside (eqb-true g z.last_generation last)
+          (claim-last-law z m lane place g rule (omega (arith, below), owes) inside (eqb-true g z.last_generation last)
           (eqb-true (m.words.life place) (claimable g) hit))
           (claim_makes true hit)
       claim_by true false true hit less own =
           can_by call (kinds.Claim g) (Life place) (word_with 0 0 (g + 1)) (Some (acts.Reclaim lane (key_number z.tag place g))) _ next is
-          (claim-own-law z m lane place g rule (below, owes) inside (eqb-false g z.last_generation less) (eqb-true (shard_of place) lane own)
+          (claim-own-law z m lane place g rule (omega (arith, below), owes) inside (eqb-false g z.last_generation less) (eqb-true (shard_of place) lane own)
           (eqb-true (m.words.life place) (claimable g) hit)) (claim_makes true hit)
       claim_by true false false hit less other =
           can_by call (kinds.Claim g) (Life place) (word_with 0 0 (g + 1)) (Some (acts.Reclaim lane (key_number z.tag place g))) _ next is
-          (claim-other-law z m lane place g rule (below, owes) inside (eqb-false g z.last_generation less) (eqb-false (shard_of place) lane other)
+          (claim-other-law z m lane place g rule (omega (arith, below), owes) inside (eqb-false g z.last_generation less) (eqb-false (shard_of place) lane other)
           (eqb-true (m.words.life place) (claimable g) hit)) (claim_makes true hit)
 
     -- LINK
     can_link : (linked : Option ℕ) (failed : Bool) (top : ℕ) (next : Aim) → m.lanes.under lane ≡ Returns place linked failed
         → aim (kinds.Link top) (Link place) ≡ next → Can call next
     can_link linked failed top next under is =
-        can_by call (kinds.Link top) (Link place) top None _ next is (link-law z m lane place top linked failed rule (below, under)) refl
+        can_by call (kinds.Link top) (Link place) top None _ next is (link-law z m lane place top linked failed rule (omega (arith, below), under)) refl
 
     -- PUSH
     home_makes : (top : ℕ) (t : Bool) → eqb (m.words.stack (shard_of place) lane) top ≡ t → cond t (Some (acts.Home lane place)) None
@@ -119,10 +120,10 @@ module _ (z : Shape) (m : Moment) (lane : ℕ) (pushed : ℕ → ℕ) (rule : Ru
         → eqb (m.words.stack (shard_of place) lane) top ≡ t → Can call next
     can_push top next under last is true hit =
         can_by call (kinds.Push top (link_to place)) (Stack (shard_of place) lane) (link_to place) (Some (acts.Home lane place)) _ next is
-        (push-succeeds-law z m lane place top false rule (below, under) (eqb-true (m.words.stack (shard_of place) lane) top hit))
+        (push-succeeds-law z m lane place top false rule below (omega (arith, below), under) (eqb-true (m.words.stack (shard_of place) lane) top hit))
         (home_makes top true hit)
     can_push top next under last is false miss =
-        let law = push-fails-law z m lane place false rule (below, under ∙ ap (λ (t : ℕ). Returns place (Some t) false) (sym last))
+        let law = push-fails-law z m lane place false rule below (omega (arith, below), under ∙ ap (λ (t : ℕ). Returns place (Some t) false) (sym last))
         (λ e. eqb-false (m.words.stack (shard_of place) lane) top miss (e ∙ last)) in
         can_by call (kinds.Push (m.lanes.pushed (shard_of place) lane) (link_to place)) (Stack (shard_of place) lane) 0 None _ next
         (ap (λ (t : ℕ). aim (kinds.Push t (link_to place)) (Stack (shard_of place) lane)) last ∙ is) law.1
@@ -131,7 +132,7 @@ module _ (z : Shape) (m : Moment) (lane : ℕ) (pushed : ℕ → ℕ) (rule : Ru
     can_push_again : (next : Aim) → m.lanes.under lane ≡ Returns place (Some 0) true
         → aim (kinds.Push 0 (link_to place)) (Stack (shard_of place) lane) ≡ next → Can call next
     can_push_again next under is =
-        let law = push-again-law z m lane place rule (below, under) in
+        let law = push-again-law z m lane place rule below (omega (arith, below), under) in
         can_by call (kinds.Push 0 (link_to place)) (Stack (shard_of place) lane) (link_to place) (Some (acts.Home lane place)) _ next is law.1
         (home_makes 0 true (eq-eqb (m.words.stack (shard_of place) lane) 0 law.0))
 
@@ -207,11 +208,11 @@ module _ (z : Shape) (m : Moment) (lane : ℕ) (pushed : ℕ → ℕ) (rule : Ru
       can_by (Publishing key content with_ref) (kinds.Publish with_ref) (Life (place_of key))
       (cond with_ref (m.words.life (place_of key) + 5) (m.words.life (place_of key) + 1)) (Some (acts.Publish lane key content with_ref)) _ next
       (same_some (aim (kinds.Publish with_ref) (Life (place_of key))) next e)
-      (publish-law z m lane key content with_ref rule (below, g.under) (filling g.were)) refl
+      (publish-law z m lane key content with_ref rule (omega (arith, below), g.under) (filling g.were)) refl
   can_publish key content with_ref (x ∷ more) told g filling next e = no_next next e
 
   can_get : (key : ℕ) (steps : List Step) (told : List Act) → IsMidway (Getting key) steps told
-      → (told ≡ [] → references z (pool_after z m.history) lane key < most_references) → (next : Aim)
+      → (told ≡ [] → references z (pool_after z m.history) lane key < most_of z lane) → (next : Aim)
       → next_step the_caller (Getting key) steps ≡ Some next
       → Can (Getting key) next
   can_get key [] told g few next e = by_test (is_hit key (m.words.life (place_of key))) refl
@@ -221,13 +222,13 @@ module _ (z : Shape) (m : Moment) (lane : ℕ) (pushed : ℕ → ℕ) (rule : Ru
 
       by_test : (t : Bool) → is_hit key (m.words.life (place_of key)) ≡ t → Can (Getting key) next
       by_test true hit =
-          let law = get-hits-law z m lane key rule (below, g.under) n.0 (few g.were) hit in
+          let law = get-hits-law z m lane key rule (omega (arith, below), g.under) n.0 (few g.were) hit in
           can_by (Getting key) kinds.Enter (Life (place_of key)) (m.words.life (place_of key) + 4) (Some (acts.Get lane key (Some law.0))) _ next
           n.1 law.1
           (Some law.0, sym hit, refl)
       by_test false miss =
           can_by (Getting key) kinds.Enter (Life (place_of key)) (m.words.life (place_of key) + 4) (Some (acts.Get lane key None)) _ next n.1
-          (get-misses-law z m lane key rule (below, g.under) n.0 miss) (None, sym miss, refl)
+          (get-misses-law z m lane key rule (omega (arith, below), g.under) n.0 miss) (None, sym miss, refl)
   can_get key (enter ∷ more) told g few next e =
       let good = next_where (is_key z key) (aim kinds.Enter (Life (place_of key))) (aim enter.kind enter.word) g.are.0 in
       let n = next_unless (is_hit key enter.before) (end_next the_caller (place_of key) more) next e in
@@ -248,10 +249,10 @@ module _ (z : Shape) (m : Moment) (lane : ℕ) (pushed : ℕ → ℕ) (rule : Ru
       → aim kinds.Enter (Life (place_of key)) ≡ next → (t : Bool) → is_hit key (m.words.life (place_of key)) ≡ t → Can (Clearing key) next
   clear_first key told g next good is true hit =
       can_by (Clearing key) kinds.Enter (Life (place_of key)) (m.words.life (place_of key) + 4) None _ next is
-      (clear-hits-law z m lane key rule (below, g.under) good hit) (ap (λ (b : Bool). cond b None (Some (acts.Clear lane key false))) (sym hit))
+      (clear-hits-law z m lane key rule (omega (arith, below), g.under) good hit) (ap (λ (b : Bool). cond b None (Some (acts.Clear lane key false))) (sym hit))
   clear_first key told g next good is false miss =
       can_by (Clearing key) kinds.Enter (Life (place_of key)) (m.words.life (place_of key) + 4) (Some (acts.Clear lane key false)) _ next is
-      (clear-misses-law z m lane key rule (below, g.under) good miss) (ap (λ (b : Bool). cond b None (Some (acts.Clear lane key false))) (sym miss))
+      (clear-misses-law z m lane key rule (omega (arith, below), g.under) good miss) (ap (λ (b : Bool). cond b None (Some (acts.Clear lane key false))) (sym miss))
 
   clear_missing : (key : ℕ) (enter : Step) (more : List Step) (told : List Act) → IsMidway (Clearing key) (enter ∷ more) told → is_key z key ≡ true
       → is_hit key enter.before ≡ false → (next : Aim) → next_step the_caller (Clearing key) (enter ∷ more) ≡ Some next → Can (Clearing key) next
@@ -270,7 +271,7 @@ module _ (z : Shape) (m : Moment) (lane : ℕ) (pushed : ℕ → ℕ) (rule : Ru
       (Some (acts.Clear lane key (eqb (state_in (m.words.life (place_of key))) 1))) _ next
       (same_some (aim kinds.Mark (Life (place_of key))) next
       (sym (ap (λ (b : Bool). cond b (mark_next the_caller (place_of key) []) (end_next the_caller (place_of key) [])) hit) ∙ e))
-      (mark-law z m lane key rule (below, g.under ∙ ap (λ (b : Bool). cond b (Undo key true) (Undo key false)) hit)) refl
+      (mark-law z m lane key rule (omega (arith, below), g.under ∙ ap (λ (b : Bool). cond b (Undo key true) (Undo key false)) hit)) refl
   clear_hitting key enter (mark ∷ more) told g good hit next e =
       let goes : (steps : List Step) → next_step the_caller (Clearing key) (enter ∷ mark ∷ steps) ≡ end_next the_caller (place_of key) steps
       = λ steps. ap (λ (b : Bool). cond b (end_next the_caller (place_of key) steps) (end_next the_caller (place_of key) (mark ∷ steps))) hit in
@@ -354,7 +355,7 @@ module _ (z : Shape) (w : World) (lane : ℕ) (next : Aim) (h : Holds z w) (belo
       (λ idle. let f = filling_facts z (pool_after z w.history) lane book owned idle number key content holds in
       record { current = f.0; with_lane = f.1; unchained = f.2 }) next e
   can (Getting key) is_called g e =
-      can_get z now lane book.pushed h.rule below key book.steps book.acts g (λ idle. fewer z (pool_after z w.history) lane book owned idle key)
+      can_get z now lane book.pushed h.rule below key book.steps book.acts g (λ idle. most-lane z lane _ below (fewer z (pool_after z w.history) lane book owned idle key))
       next e
   can (Releasing key) (number, content, holds) g e =
       can_release z now lane book.pushed h.rule below key book.steps book.acts g

@@ -146,12 +146,12 @@ changed_inside n last (Reclaim lane key) s below h =
 changed_inside n last (Home lane place) s below h = tt
 changed_inside n last (Collect lane places) s below h = below
 
-pool_inside : (z : Shape) (P : Pool) (history : List Act) (place : ℕ) → LegalFrom z P history → IsInside z.lanes (P place).phase
+pool_inside : (z : Shape) → z.guests ≡ 0 → (P : Pool) (history : List Act) (place : ℕ) → LegalFrom z P history → IsInside z.lanes (P place).phase
     → IsInside z.lanes (pool_from z P history place).phase
-pool_inside z P [] place legal h = h
-pool_inside z P (act ∷ more) place legal h = pool_inside z (after z act P) more place legal.2
+pool_inside z alone P [] place legal h = h
+pool_inside z alone P (act ∷ more) place legal h = pool_inside z alone (after z act P) more place legal.2
     (either_inside z.lanes (touches act place) (changed z.last_generation act (P place)) (P place)
-    (changed_inside z.lanes z.last_generation act (P place) legal.0 h) h)
+    (changed_inside z.lanes z.last_generation act (P place) (omega (arith, legal.0, alone)) h) h)
 
 -- a place is with one lane, or home, or published, or retired
 one_phase : (n : ℕ) (f : Phase) → IsInside n f
@@ -169,7 +169,7 @@ parts_sum : (closed lists at_home fill clear in_map at_last withs all : ℕ)
     → closed + lists + at_home + fill + clear + in_map + at_last ≡ 1
 parts_sum closed lists at_home fill clear in_map at_last withs all a b c = omega arith
 
-module _ (z : Shape) (w : World) (h : Holds z w) (rest : (lane : ℕ) → lane < z.lanes → IsResting z lane (w.books lane)) where
+module _ (z : Shape) (w : World) (h : Holds z w) (rest : (lane : ℕ) → lane < z.lanes → IsResting z lane (w.books lane)) (alone : z.guests ≡ 0) where
   one_part : (place : ℕ) → is_place z place ≡ true → parts z w place ≡ 1
   one_part place is =
       let P = pool_after z w.history in
@@ -187,7 +187,7 @@ module _ (z : Shape) (w : World) (h : Holds z w) (rest : (lane : ℕ) → lane <
       + sum_below z.lanes (λ lane. under_clear z place (w.books lane))) u)
       (sum-same z.lanes (λ lane. had z place lane (w.books lane)) (λ lane. count_if (is_with lane f))
       (λ lane less. lane_has z P lane place (w.books lane) is (h.owned lane less) (rest lane less)))
-      (one_phase z.lanes f (pool_inside z fresh w.history place h.rule.legal below))
+      (one_phase z.lanes f (pool_inside z alone fresh w.history place h.rule.legal below))
 
 -- ---- the rule
 
@@ -207,6 +207,7 @@ repushed z words history under pushed last chain rule same = record {
   home = record {
     stacks = rule.home.stacks;
     returned = rule.home.returned;
+    bits = rule.home.bits;
     last_pushed = λ shard lane inside below apart.
         subst (λ (n : ℕ). (words.stack shard lane ≡ 0) ⊎ (words.stack shard lane ≡ n)) (same shard lane below)
         (rule.home.last_pushed shard lane inside below apart);
@@ -226,14 +227,16 @@ finished_idle : (z : Shape) (w : World) (lane : ℕ) → lane < z.lanes → is_f
 finished_idle z w lane below finished = ended_idle z lane (w.books lane) (w.books lane).left (w.books lane).steps
     (sym (ap (λ (t : Bool). cond t (at_end (w.books lane).left) true) (lt-ltb lane z.lanes below)) ∙ finished)
 
-pub stands : (z : Shape) (w : World) → Holds z w → ((lane : ℕ) → lane < z.lanes → IsResting z lane (w.books lane)) → Stands z w
-stands z w h rest =
+pub stands : (z : Shape) → z.guests ≡ 0 → (w : World) → Holds z w → ((lane : ℕ) → lane < z.lanes → IsResting z lane (w.books lane)) → Stands z w
+stands z alone w h rest =
     let rule : Rule z (moment_of z w) = repushed z w.words w.history (under_way z w)
     (λ shard lane. pushed_after (w.books lane).steps (w.books lane).pushed shard)
     (λ shard lane. (w.books lane).pushed shard) (chain_of w) h.rule
     (λ shard lane below. resting_pushed z lane (w.books lane) (h.owned lane below).call (rest lane below) shard) in
     record {
-      one_part = one_part z w h rest;
+      one_part = one_part z w h rest alone;
       rule = rule;
-      referred = λ finished. quiet-law z (moment_of z w) rule (λ lane below. finished_idle z w lane below (finished lane));
+      referred = λ finished place inside is.
+          let some = quiet-law z (moment_of z w) rule (λ lane below. finished_idle z w lane (omega (arith, below, alone)) (finished lane)) place inside is in
+          (some.0, omega (arith, some.1, alone), some.2);
     }

@@ -22,9 +22,10 @@ use Rattle.seqpool.proofs.Growth.{legal-rest}
 use Rattle.steplaws.specs.declared.pending.Pending.{Pending}
 use Rattle.steplaws.specs.declared.pending.Pending.TheVariants.{Nothing, Undo}
 use Rattle.steplaws.specs.Calls.{Call, Publishing, Getting, Releasing, Clearing, Creating, Caller, Aim, aim, is_hit, first_lane, end_next, mark_next, take_next, next_step, AreSteps, key_in, Makes, KindMakes}
-use Rattle.steplaws.specs.Facts.{most_references, put_at, value_of, with_value, Lanes, with_under, with_chain, Moment, moment, Rule}
+use Rattle.steplaws.specs.Facts.{most_of, put_at, value_of, with_value, Lanes, with_under, with_chain, Moment, moment, Rule}
 use Rattle.steplaws.specs.StepLaws.{Keeps, IsFilling}
 use Rattle.steplaws.proofs.Keeping.{rule-same}
+use Rattle.steplaws.proofs.Lives.{most-lane}
 use Rattle.steplaws.proofs.Enters.{get-hits-law, get-misses-law, clear-hits-law, clear-misses-law}
 use Rattle.steplaws.proofs.Publishes.{publish-law}
 use Rattle.steplaws.proofs.Marks.{mark-law}
@@ -176,7 +177,7 @@ module _ (z : Shape) (m : Moment) (lane : ℕ) (pushed : ℕ → ℕ) (chain : L
       let word : ℕ = m.words.life (place_of key) in
       kept_life call [] told g (kinds.Publish with_ref) (Life (place_of key)) (cond with_ref (word + 5) (word + 1))
       (Some (acts.Publish lane key content with_ref)) Nothing s
-      (publish-law z m lane key content with_ref g.rule (g.below, g.under) (filling g.were))
+      (publish-law z m lane key content with_ref g.rule (omega (arith, g.below), g.under) (filling g.were))
       (ap (λ (n : ℕ). cond with_ref (n + 5) (n + 1)) (sym s.finds) ∙ sym s.leaves.1) (sym s.does) refl refl (λ f. refl)
   publish_kept key content with_ref (x ∷ more) told g filling = no_next (aim step.kind step.word) g.next
 
@@ -188,11 +189,11 @@ module _ (z : Shape) (m : Moment) (lane : ℕ) (pushed : ℕ → ℕ) (chain : L
   reply_shown key reply legal is =
       (legal-rest z fresh m.history (acts.Get lane key reply ∷ []) (subst (λ (o : Option Act). IsLegal z (m.history ++ act_list o)) is legal)).1
 
-  get_enters : (key : ℕ) (told : List Act) → IsGoing (Getting key) [] told → references z (pool_after z m.history) lane key < most_references
+  get_enters : (key : ℕ) (told : List Act) → IsGoing (Getting key) [] told → references z (pool_after z m.history) lane key < most_of z lane
       → is_key z key ≡ true → IsOf (Getting key) kinds.Enter (Life (place_of key)) → (t : Bool) → is_hit key (m.words.life (place_of key)) ≡ t
       → Kept (Getting key) [] told
   get_enters key told g few good s true hit =
-      let law = get-hits-law z m lane key g.rule (g.below, g.under) good few hit in
+      let law = get-hits-law z m lane key g.rule (omega (arith, g.below), g.under) good few hit in
       let does = s.does in
       let same : Some law.0 ≡ does.0 = law.1.allowed.1 ∙ sym (reply_shown key does.0 g.legal does.2) in
       kept_life (Getting key) [] told g kinds.Enter (Life (place_of key)) (m.words.life (place_of key) + 4)
@@ -200,7 +201,7 @@ module _ (z : Shape) (m : Moment) (lane : ℕ) (pushed : ℕ → ℕ) (chain : L
       (ap (λ (n : ℕ). n + 4) (sym s.finds) ∙ sym s.leaves) (ap (λ (r : Option (List ℕ)). Some (acts.Get lane key r)) same ∙ sym does.2)
       (ap (λ (n : ℕ). cond (is_hit key n) Nothing (Undo key false)) s.finds ∙ ap (λ (b : Bool). cond b Nothing (Undo key false)) hit) refl (λ f. refl)
   get_enters key told g few good s false miss =
-      let law = get-misses-law z m lane key g.rule (g.below, g.under) good miss in
+      let law = get-misses-law z m lane key g.rule (omega (arith, g.below), g.under) good miss in
       let does = s.does in
       let same : does.0 ≡ None = no_reply does.0 (does.1 ∙ (ap (is_hit key) s.finds ∙ miss)) in
       kept_life (Getting key) [] told g kinds.Enter (Life (place_of key)) (m.words.life (place_of key) + 4) (Some (acts.Get lane key None))
@@ -215,7 +216,7 @@ module _ (z : Shape) (m : Moment) (lane : ℕ) (pushed : ℕ → ℕ) (chain : L
   miss_under key (x ∷ more) = refl
 
   get_kept : (key : ℕ) (steps : List Step) (told : List Act) → IsGoing (Getting key) steps told
-      → (told ≡ [] → references z (pool_after z m.history) lane key < most_references) → Kept (Getting key) steps told
+      → (told ≡ [] → references z (pool_after z m.history) lane key < most_of z lane) → Kept (Getting key) steps told
   get_kept key [] told g few =
       let n = next_where (is_key z key) (aim kinds.Enter (Life (place_of key))) (aim step.kind step.word) g.next in
       get_enters key told g (few g.were) n.0 (is_of (Getting key) [] told g kinds.Enter (Life (place_of key)) n.1)
@@ -245,7 +246,7 @@ module _ (z : Shape) (m : Moment) (lane : ℕ) (pushed : ℕ → ℕ) (chain : L
       → Kept (Clearing key) [] told
   clear_enters key told g good s true hit =
       kept_life (Clearing key) [] told g kinds.Enter (Life (place_of key)) (m.words.life (place_of key) + 4) None (Undo key true) s
-      (clear-hits-law z m lane key g.rule (g.below, g.under) good hit)
+      (clear-hits-law z m lane key g.rule (omega (arith, g.below), g.under) good hit)
       (ap (λ (n : ℕ). n + 4) (sym s.finds) ∙ sym s.leaves)
       (sym (s.does ∙ (ap (λ (n : ℕ). cond (is_hit key n) None (Some (acts.Clear lane key false))) s.finds
       ∙ ap (λ (b : Bool). cond b None (Some (acts.Clear lane key false))) hit)))
@@ -254,7 +255,7 @@ module _ (z : Shape) (m : Moment) (lane : ℕ) (pushed : ℕ → ℕ) (chain : L
   clear_enters key told g good s false miss =
       kept_life (Clearing key) [] told g kinds.Enter (Life (place_of key)) (m.words.life (place_of key) + 4) (Some (acts.Clear lane key false))
       (Undo key false) s
-      (clear-misses-law z m lane key g.rule (g.below, g.under) good miss)
+      (clear-misses-law z m lane key g.rule (omega (arith, g.below), g.under) good miss)
       (ap (λ (n : ℕ). n + 4) (sym s.finds) ∙ sym s.leaves)
       (sym (s.does ∙ (ap (λ (n : ℕ). cond (is_hit key n) None (Some (acts.Clear lane key false))) s.finds
       ∙ ap (λ (b : Bool). cond b None (Some (acts.Clear lane key false))) miss)))
@@ -290,7 +291,7 @@ module _ (z : Shape) (m : Moment) (lane : ℕ) (pushed : ℕ → ℕ) (chain : L
       let value : word + 3 - state_in word ≡ step.after = ap (λ (n : ℕ). n + 3 - state_in n) (sym found) ∙ (let change = leaves.2 in omega arith) in
       kept_life (Clearing key) (enter ∷ []) told g kinds.Mark (Life (place_of key)) (word + 3 - state_in word)
       (Some (acts.Clear lane key (eqb (state_in word) 1))) (Undo key true) s
-      (mark-law z m lane key g.rule (g.below, g.under ∙ ap (λ (b : Bool). cond b (Undo key true) (Undo key false)) hit))
+      (mark-law z m lane key g.rule (omega (arith, g.below), g.under ∙ ap (λ (b : Bool). cond b (Undo key true) (Undo key false)) hit))
       value (sym (s.does ∙ ap (λ (n : ℕ). Some (acts.Clear lane key (eqb (state_in n) 1))) found))
       (ap (λ (b : Bool). cond b (Undo key true) (under_miss z lane key (step ∷ []))) hit) refl (λ f. refl)
   clear_hits key enter (mark ∷ more) told g good hit =
@@ -427,7 +428,7 @@ module _ (z : Shape) (w : World) (lane : ℕ) (step : Step) (act : Option Act) (
       record { current = f.0; with_lane = f.1; unchained = f.2 })
   kept (Getting key) is_called g =
       get_kept z now lane book.pushed book.chain step act key book.steps book.acts g
-      (λ idle. fewer z (pool_after z w.history) lane book owned idle key)
+      (λ idle. most-lane z lane _ below (fewer z (pool_after z w.history) lane book owned idle key))
   kept (Releasing key) (number, content, holds) g =
       release_kept z now lane book.pushed book.chain step act key book.steps book.acts g
       (reference_key z (pool_after z w.history) lane book owned number key content holds)

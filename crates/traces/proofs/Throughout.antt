@@ -95,7 +95,7 @@ first_owned z lane script = record {
 pub holds_first : (z : Shape) (scripts : List (List Command)) → IsShape z → z.last_generation < 2 ^ 32 → Holds z (first_world scripts)
 holds_first z scripts shape wide = record {
   rule = subst (λ (lanes : Lanes). Rule z (moment first_words [] lanes)) (sym (first_lanes_now z scripts))
-      (start-law z first_words shape wide record { life = λ place is. refl; stack = λ shard lane. refl });
+      (start-law z first_words shape wide record { life = λ place is. refl; stack = λ shard lane. refl; bits = λ shard row. refl });
   owned = λ lane below. first_owned z lane (script_or_none (slice_get scripts lane));
 }
 
@@ -261,17 +261,17 @@ legal_now : (z : Shape) (w : World) (ts : List Turn) → IsLegal z (world_from z
 legal_now z w [] legal = legal
 legal_now z w (t ∷ more) legal = legal-front z fresh w.history (act_list t.act) (legal_now z (world_after z w t) more legal)
 
-all_turns : (z : Shape) (schedule : List ℕ) (ts : List Turn) (w : World) → IsKept z w → AreResting z w → AreTurns z w schedule ts
+all_turns : (z : Shape) → z.guests ≡ 0 → (schedule : List ℕ) (ts : List Turn) (w : World) → IsKept z w → AreResting z w → AreTurns z w schedule ts
     → IsLegal z (world_from z w ts).history
     → StandsThroughout z w ts × IsKept z (world_from z w ts)
-all_turns z [] [] w h rest are legal = (stands z w h.holds rest, h)
-all_turns z [] (t ∷ more) w h rest are legal = absurd are
-all_turns z (lane ∷ schedule) [] w h rest are legal = all_turns z schedule [] w h rest are.1 legal
-all_turns z (lane ∷ schedule) (t ∷ more) w h rest (inl are) legal = all_turns z schedule (t ∷ more) w h rest are.1 legal
-all_turns z (lane ∷ schedule) (t ∷ more) w h rest (inr are) legal =
+all_turns z alone [] [] w h rest are legal = (stands z alone w h.holds rest, h)
+all_turns z alone [] (t ∷ more) w h rest are legal = absurd are
+all_turns z alone (lane ∷ schedule) [] w h rest are legal = all_turns z alone schedule [] w h rest are.1 legal
+all_turns z alone (lane ∷ schedule) (t ∷ more) w h rest (inl are) legal = all_turns z alone schedule (t ∷ more) w h rest are.1 legal
+all_turns z alone (lane ∷ schedule) (t ∷ more) w h rest (inr are) legal =
     let next = keep_turn z w t h are.1 (legal_now z (world_after z w t) more legal) in
-    let later = all_turns z schedule more (world_after z w t) next (rest_turn z w t rest are.1 next) are.2 legal in
-    ((stands z w h.holds rest, later.0), later.1)
+    let later = all_turns z alone schedule more (world_after z w t) next (rest_turn z w t rest are.1 next) are.2 legal in
+    ((stands z alone w h.holds rest, later.0), later.1)
 
 pub keeps_first : (z : Shape) (scripts : List (List Command)) → IsShape z → z.last_generation < 2 ^ 32 → IsKept z (first_world scripts)
 keeps_first z scripts shape wide = record {
@@ -285,9 +285,9 @@ first_rest z scripts lane below = inl refl
 -- ---- the laws
 
 pub stands-law : StandsLaw
-stands-law z scripts schedule trace shape wide lawful =
-    (all_turns z schedule trace (first_world scripts) (keeps_first z scripts shape wide) (first_rest z scripts) lawful.turns lawful.legal).0
+stands-law z scripts schedule trace shape alone wide lawful =
+    (all_turns z alone schedule trace (first_world scripts) (keeps_first z scripts shape wide) (first_rest z scripts) lawful.turns lawful.legal).0
 
 pub holds-law : HoldsLaw
-holds-law z scripts schedule trace shape wide lawful =
-    (all_turns z schedule trace (first_world scripts) (keeps_first z scripts shape wide) (first_rest z scripts) lawful.turns lawful.legal).1.holds
+holds-law z scripts schedule trace shape alone wide lawful =
+    (all_turns z alone schedule trace (first_world scripts) (keeps_first z scripts shape wide) (first_rest z scripts) lawful.turns lawful.legal).1.holds

@@ -22,7 +22,7 @@ pub record World : Type 0 where
 
 -- at first each lifecycle word is that of generation 1, idle, count 0; the others are 0
 abbrev pub first_words : Words
-first_words = record { life = λ _. fresh_word; link = λ _. 0; stack = λ _ _. 0 }
+first_words = record { life = λ _. fresh_word; link = λ _. 0; stack = λ _ _. 0; bits = λ _ _. 0 }
 
 -- the script of a lane; none beyond the last
 abbrev pub script_or_none : Option (List Command) → List Command

@@ -5,7 +5,7 @@ use Rattle.std.proofs.lemmas.List.{length-map}
 use Rattle.std.proofs.lemmas.Option.{slice_get_within, slice_get-map}
 use Rattle.poolsteps.specs.declared.view.View.{View}
 use Rattle.poolsteps.specs.Views.{the_lane}
-use Rattle.shardpool.specs.Places.{held_after}
+use Rattle.seatcalls.specs.Left.{held_after}
 use Rattle.shardpool.specs.Tokens.{PoolOf, LaneOf}
 use Rattle.shardpool.specs.Lanes.{Owns}
 use Rattle.shardpool.specs.Opened.{AreFirstLanes, IsFirstLane}
@@ -44,10 +44,12 @@ may-begin pool lanes jobs first of index job at =
     let is = first-at pool lanes jobs first of index job at in
     (is.owned, subst (λ (book : View). held_after (the_lane book).mine 0 ≤ 1048559) (sym is.book) (omega arith))
 
--- the lanes of the answers of jobs for all lanes of a pool are all its lanes
-pub are-lanes : {says : ℕ → ℕ → Bool → Type 0} (pool : PoolOf) (lanes : List LaneOf) (jobs : List Job) (dones : List Done) → AreFirstLanes pool lanes
+-- the lanes of the answers of jobs for all lanes of a pool without guests are all its lanes
+pub are-lanes : {says : ℕ → ℕ → Bool → Type 0} (pool : PoolOf) (lanes : List LaneOf) (jobs : List Job) (dones : List Done) → pool.shape.guests ≡ 0
+    → AreFirstLanes pool lanes
     → lanes_before jobs ≡ lanes → Answers says jobs dones → AreLanes pool (lanes_after dones)
-are-lanes pool lanes jobs dones first of answers = record {
+are-lanes pool lanes jobs dones alone first of answers = record {
+  alone = alone;
   count = many;
   owned = λ index lane at.
       let low : index < length dones = omega (arith, slice_get_within (lanes_after dones) index lane at, wide) in

@@ -1,5 +1,6 @@
 -- Share, over the acts that move no share: a get, a release and a clear.
 use Rattle.poolsteps.specs.Spot.{Spot as Standing}
+use Rattle.keybits.specs.Shapes.{callers}
 use Rattle.std.proofs.Common.{◌≡◌, ◌≢◌, ℕ, ◌<◌, Bool, true, false, cond, eqb, List, [], ◌∷◌, ◌++◌, length, Some, None, refl, sym, ◌∙◌, subst, arith, eq-eqb, ne_eqb}
 use Rattle.keybits.specs.declared.shape.Shape.{Shape}
 use Rattle.keybits.specs.Keys.{place_of}
@@ -18,7 +19,7 @@ use Rattle.poolsteps.proofs.shares.PlaceShares.{SharedAt, SharedOf, shared-each,
 
 -- each lane that touched the share of a number may still have it
 abbrev pub StillMay : Shape → ℕ → (ℕ → ℕ → Status) → Phase → Phase → Type 0
-StillMay z last status f g = (l number : ℕ) → l < z.lanes → number < z.lanes → status l number ≢ Untouched → MayHave last l number f → MayHave last l number g
+StillMay z last status f g = (l number : ℕ) → l < (callers z) → number < (callers z) → status l number ≢ Untouched → MayHave last l number f → MayHave last l number g
 
 -- so it is where a lane gives back a reference, and its last one only where it left its own slot alone
 release-may : (z : Shape) (last lane : ℕ) (status : ℕ → ℕ → Status) (f : Phase) → 0 < references_in f lane

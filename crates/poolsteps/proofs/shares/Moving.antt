@@ -1,5 +1,6 @@
 -- A lane moves one slot of a place, out of it or into it: every share is still where it is to be.
 use Rattle.poolsteps.specs.Spot.{Spot}
+use Rattle.keybits.specs.Shapes.{callers}
 use Rattle.std.proofs.Common.{◌≡◌, ◌≢◌, ⊎_elim, ℕ, ◌<◌, Bool, true, false, cond, eqb, ◌&&◌, List, Option, Some, refl, ap, sym, ◌∙◌, subst, eq-eqb, ne_eqb}
 use Rattle.std.proofs.lemmas.Bool.{and_from, and_left, and_right}
 use mathlib.Core.Logic.{dite}
@@ -32,7 +33,7 @@ module _ {T : Type 0} (content : T → List ℕ) (room : T → ℕ) (spots : ℕ
 
   stands-same : (z : Shape) (b : Bool) → StandsAs content room spots z s p k c b → StandsAs content room spots z t p k d b
   stands-same z true stands = rests-same (eqb k (shard_of p)) stands
-  stands-same z false stands = share-same k z.lanes stands
+  stands-same z false stands = share-same k (callers z) stands
 
 -- ---- what a move changes
 
@@ -111,7 +112,7 @@ module _ {T : Type 0} (content : T → List ℕ) (room : T → ℕ) (spots : ℕ
 
   -- ---- a lane that may have a share moves it
 
-  module _ (s : Shared content room spots z history kept slots q) (less : lane < z.lanes) (below : number < z.lanes) where
+  module _ (s : Shared content room spots z history kept slots q) (less : lane < (callers z)) (below : number < (callers z)) where
     abbrev f : Phase
     f = (pool_after z history place).phase
 
@@ -120,30 +121,30 @@ module _ {T : Type 0} (content : T → List ℕ) (room : T → ℕ) (spots : ℕ
 
     module _ (may : MayHave last lane number f) (cell : MayMove z history q lane place number c) where
       -- no other lane touched the slot
-      alone : (l : ℕ) → l < z.lanes → l ≢ lane → now.status l place number ≢ Untouched → ⊥
+      alone : (l : ℕ) → l < (callers z) → l ≢ lane → now.status l place number ≢ Untouched → ⊥
       alone l l_less other some =
           other (one-holder last l lane number f (s.touched l place number l_less below (λ none. some (status-other l place number other ∙ none))).0 may)
 
       -- so a lane that left it otherwise left it as the move did
-      left-by : (l : ℕ) → l < z.lanes → (left : Status) → left ≢ Untouched → now.status l place number ≡ left → status ≡ left
+      left-by : (l : ℕ) → l < (callers z) → (left : Status) → left ≢ Untouched → now.status l place number ≡ left → status ≡ left
       left-by l l_less left some is = dite (ℕ_discrete l lane)
           (λ e. sym status-here ∙ (ap (λ (m : ℕ). now.status m place number) (sym e) ∙ is))
           (λ other. absurd (alone l l_less other (λ none. some (sym is ∙ none))))
 
       -- the place keeps its cell where the lane neither emptied another of its slots nor has that in its hands,
-      keeps-left : (k : ℕ) → k < z.lanes → k ≢ number → (left : Status) → q.status lane place k ≡ left → left ≢ Emptied → left ≢ InHand → c ≡ q.stored place
+      keeps-left : (k : ℕ) → k < (callers z) → k ≢ number → (left : Status) → q.status lane place k ≡ left → left ≢ Emptied → left ≢ InHand → c ≡ q.stored place
       keeps-left k k_less other left is full still = ⊎_elim
           (λ same. same)
           (λ all. ⊎_elim (λ empty. absurd (full (sym is ∙ empty))) (λ held. absurd (still (sym is ∙ held))) (all.1 k k_less other)) cell
 
       -- where another lane touched a slot of it,
-      keeps-touched : (l k : ℕ) → l < z.lanes → k < z.lanes → l ≢ lane → q.status l place k ≢ Untouched → c ≡ q.stored place
+      keeps-touched : (l k : ℕ) → l < (callers z) → k < (callers z) → l ≢ lane → q.status l place k ≢ Untouched → c ≡ q.stored place
       keeps-touched l k l_less k_less other some = ⊎_elim
           (λ same. same)
           (λ all. absurd (other (sym (all-holder last lane l k f all.0 (s.touched l place k l_less k_less some).0)))) cell
 
       -- and so where a lane put a whole cell into another of its slots
-      keeps-whole : (l k : ℕ) → l < z.lanes → k < z.lanes → k ≢ number → q.status l place k ≡ Whole → c ≡ q.stored place
+      keeps-whole : (l k : ℕ) → l < (callers z) → k < (callers z) → k ≢ number → q.status l place k ≡ Whole → c ≡ q.stored place
       keeps-whole l k l_less k_less other is = dite (ℕ_discrete l lane)
           (λ e. keeps-left k k_less other Whole (ap (λ (m : ℕ). q.status m place k) (sym e) ∙ is) (λ bad. cc bad) (λ bad. cc bad))
           (λ n. keeps-touched l k l_less k_less n (λ none. let bad : Whole ≡ Untouched = sym is ∙ none in cc bad))
@@ -152,12 +153,12 @@ module _ {T : Type 0} (content : T → List ℕ) (room : T → ℕ) (spots : ℕ
       abbrev Knows : ℕ → ℕ → ℕ → Type 0
       Knows l p k = MayHave (reclaimer history p) l k (pool_after z history p).phase × (now.knows l p ≡ now.stored p)
 
-      touched-here : (l : ℕ) → l < z.lanes → now.status l place number ≢ Untouched → Knows l place number
+      touched-here : (l : ℕ) → l < (callers z) → now.status l place number ≢ Untouched → Knows l place number
       touched-here l l_less some = dite (ℕ_discrete l lane)
           (λ e. (subst (λ (m : ℕ). MayHave last m number f) (sym e) may, known-here l e))
           (λ other. absurd (alone l l_less other some))
 
-      touched-beside : (l k : ℕ) → k ≢ number → l < z.lanes → k < z.lanes → q.status l place k ≢ Untouched → Knows l place k
+      touched-beside : (l k : ℕ) → k ≢ number → l < (callers z) → k < (callers z) → q.status l place k ≢ Untouched → Knows l place k
       touched-beside l k other l_less k_less some =
           let was = s.touched l place k l_less k_less some in (
             was.0,
@@ -165,7 +166,7 @@ module _ {T : Type 0} (content : T → List ℕ) (room : T → ℕ) (spots : ℕ
                 (λ n. known-other l place n ∙ (was.1 ∙ sym (stored-here ∙ keeps-touched l k l_less k_less n some))),
           )
 
-      touched-else : (l p k : ℕ) → p ≢ place → l < z.lanes → k < z.lanes → q.status l p k ≢ Untouched → Knows l p k
+      touched-else : (l p k : ℕ) → p ≢ place → l < (callers z) → k < (callers z) → q.status l p k ≢ Untouched → Knows l p k
       touched-else l p k other l_less k_less some =
           let was = s.touched l p k l_less k_less some in
           (was.0, known-else l p other ∙ (was.1 ∙ sym (stored-else p other)))
@@ -178,9 +179,9 @@ module _ {T : Type 0} (content : T → List ℕ) (room : T → ℕ) (spots : ℕ
         pub move_keeps : Shared content room spots z history kept slots_now now
         move_keeps = record {
           untouched = each-slot place number
-              (λ inside k_less none. rw (may-away last lane number f may) (share-here number z.lanes (left-as Untouched (sym status-here ∙ none lane less))))
+              (λ inside k_less none. rw (may-away last lane number f may) (share-here number (callers z) (left-as Untouched (sym status-here ∙ none lane less))))
               (λ k other inside k_less none.
-              let old : (l : ℕ) → l < z.lanes → q.status l place k ≡ Untouched = λ l l_less. sym (status-beside l k other) ∙ none l l_less in
+              let old : (l : ℕ) → l < (callers z) → q.status l place k ≡ Untouched = λ l l_less. sym (status-beside l k other) ∙ none l l_less in
               let same = keeps-left k k_less other Untouched (old lane less) (λ bad. cc bad) (λ bad. cc bad) in
               stands-beside k other same (is_home f) (s.untouched place k inside k_less old))
               (λ p k other inside k_less none. stands-else p k other (is_home (pool_after z history p).phase)

@@ -2,7 +2,7 @@
 use Rattle.poolsteps.specs.Spot.{Spot}
 use Rattle.std.proofs.Common.{◌≡◌, ◌≢◌, ℕ, ◌<◌, true, List, [], ◌∷◌, ◌++◌, length, sym, subst}
 use Rattle.keybits.specs.declared.shape.Shape.{Shape}
-use Rattle.keybits.specs.Shapes.{is_place}
+use Rattle.keybits.specs.Shapes.{callers, is_place}
 use Rattle.seqpool.specs.declared.act.Act.{Act}
 use Rattle.seqpool.specs.Pool.{Phase, Pool, after, fresh, pool_after}
 use Rattle.seqpool.proofs.Growth.{pool-snoc}
@@ -17,13 +17,13 @@ module _ {T : Type 0} (content : T → List ℕ) (room : T → ℕ) (spots : ℕ
   -- what Share says of a place of this phase, which this lane reclaimed last, and whose room is this,
   -- where each lane left the slot of each number so; the place's cell, and what each lane knows of it
   pub record SharedAt (place : ℕ) (phase : Phase) (last room_kept : ℕ) (status : ℕ → ℕ → Status) (stored : Stored) (knows : ℕ → Stored) : Type 0 where
-    pub untouched : (number : ℕ) → is_place z place ≡ true → number < z.lanes → ((l : ℕ) → l < z.lanes → status l number ≡ Untouched)
+    pub untouched : (number : ℕ) → is_place z place ≡ true → number < (callers z) → ((l : ℕ) → l < (callers z) → status l number ≡ Untouched)
         → StandsAs content room spots z slots place number stored (is_home phase)
-    pub emptied : (l number : ℕ) → l < z.lanes → is_place z place ≡ true → number < z.lanes → status l number ≡ Emptied → IsEmpty content room spots slots place number
-    pub whole : (l number : ℕ) → l < z.lanes → is_place z place ≡ true → number < z.lanes → status l number ≡ Whole
+    pub emptied : (l number : ℕ) → l < (callers z) → is_place z place ≡ true → number < (callers z) → status l number ≡ Emptied → IsEmpty content room spots slots place number
+    pub whole : (l number : ℕ) → l < (callers z) → is_place z place ≡ true → number < (callers z) → status l number ≡ Whole
         → HasShare content room spots slots place number stored 0 1
-    pub touched : (l number : ℕ) → l < z.lanes → number < z.lanes → status l number ≢ Untouched → MayHave last l number phase × (knows l ≡ stored)
-    pub owned : (l : ℕ) → l < z.lanes → HasAll last l phase → knows l ≡ stored
+    pub touched : (l number : ℕ) → l < (callers z) → number < (callers z) → status l number ≢ Untouched → MayHave last l number phase × (knows l ≡ stored)
+    pub owned : (l : ℕ) → l < (callers z) → HasAll last l phase → knows l ≡ stored
     pub contents : IsKept stored room_kept phase
 
   -- the same of a place by its number, of this pool, these reclaimers, these rooms and this stock

@@ -1,5 +1,6 @@
 -- Share, over a publish.
 use Rattle.poolsteps.specs.Spot.{Spot}
+use Rattle.keybits.specs.Shapes.{callers}
 use Rattle.std.proofs.Common.{◌≡◌, ◌≢◌, ◌⊎◌, ⊎_elim, ℕ, ◌<◌, Bool, true, false, cond, List, refl, ap, sym, ◌∙◌, subst, arith}
 use Rattle.keybits.specs.declared.shape.Shape.{Shape}
 use Rattle.keybits.specs.Keys.{place_of}
@@ -36,12 +37,12 @@ one-reference lane l false e gets = absurd (cc gets)
 module _ {T : Type 0} (content : T → List ℕ) (room : T → ℕ) (spots : ℕ → Spot) (z : Shape) (slots : Slots T) where
   -- the place that is published
   published-at : (place lane last room_kept room_now : ℕ) (status : ℕ → ℕ → Status) (old c : Stored) (knows now : ℕ → Stored) (with_ref : Bool)
-      → lane < z.lanes → room_now ≡ c.room → (c ≡ old) ⊎ ((number : ℕ) → number < z.lanes → IsOut (status lane number))
-      → ((number : ℕ) → number < z.lanes → status lane number ≢ Untouched → (number ≡ lane) × (with_ref ≡ true)) → now lane ≡ c
+      → lane < (callers z) → room_now ≡ c.room → (c ≡ old) ⊎ ((number : ℕ) → number < (callers z) → IsOut (status lane number))
+      → ((number : ℕ) → number < (callers z) → status lane number ≢ Untouched → (number ≡ lane) × (with_ref ≡ true)) → now lane ≡ c
       → SharedAt content room spots z slots place (with lane) last room_kept status old knows
       → SharedAt content room spots z slots place (published c.content (put (λ _. 0) lane (cond with_ref 1 0)) false) last room_now status c now
   published-at place lane last room_kept room_now status old c knows now with_ref less room_is may back known s = record {
-    untouched = λ number inside below none. as_new number number z.lanes below
+    untouched = λ number inside below none. as_new number number (callers z) below
         (λ out. out-stands (status lane number) out (none lane less)) (s.untouched number inside below none);
     emptied = s.emptied;
     whole = λ l number small inside below e.
@@ -57,13 +58,13 @@ module _ {T : Type 0} (content : T → List ℕ) (room : T → ℕ) (spots : ℕ
   }
     where
       -- a share that stands in a slot is of the cell as it is now
-      as_new : (number k n : ℕ) → number < z.lanes → (IsOut (status lane number) → ⊥)
+      as_new : (number k n : ℕ) → number < (callers z) → (IsOut (status lane number) → ⊥)
           → HasShare content room spots slots place number old k n → HasShare content room spots slots place number c k n
       as_new number k n below stands has = ⊎_elim (λ (e : c ≡ old). subst (λ (x : Stored). HasShare content room spots slots place number x k n) (sym e) has)
-          (λ (out : (number : ℕ) → number < z.lanes → IsOut (status lane number)). absurd (stands (out number below))) may
+          (λ (out : (number : ℕ) → number < (callers z) → IsOut (status lane number)). absurd (stands (out number below))) may
 
       -- only the lane touched the slots
-      mine : (l number : ℕ) → l < z.lanes → number < z.lanes → status l number ≢ Untouched → l ≡ lane
+      mine : (l number : ℕ) → l < (callers z) → number < (callers z) → status l number ≢ Untouched → l ≡ lane
       mine l number small below n = sym (s.touched l number small below n).0
 
       whole-touched : (status : Status) → status ≡ Whole → status ≢ Untouched

@@ -1,5 +1,6 @@
 -- Share, over a reclaim.
 use Rattle.poolsteps.specs.Spot.{Spot as Standing}
+use Rattle.keybits.specs.Shapes.{callers}
 use Rattle.std.proofs.Common.{◌≡◌, ◌≢◌, ℕ, ◌+◌, ◌<◌, Bool, true, false, cond, eqb, List, Option, Some, refl, ap, sym, ◌∙◌, subst}
 use Rattle.keybits.specs.declared.shape.Shape.{Shape}
 use Rattle.keybits.specs.Keys.{place_of}
@@ -68,7 +69,7 @@ module _ {T : Type 0} (content : T → List ℕ) (room : T → ℕ) (spots : ℕ
     (marked : is_marked s.phase ≡ true) (none : (l : ℕ) → references_in s.phase l ≡ 0)
     (old : SharedAt content room spots z slots place s.phase last room_kept status c knows) where
   -- all shares of the place are in their slots
-  all-untouched : (number : ℕ) → number < z.lanes → (l : ℕ) → l < z.lanes → status l number ≡ Untouched
+  all-untouched : (number : ℕ) → number < (callers z) → (l : ℕ) → l < (callers z) → status l number ≡ Untouched
   all-untouched number below l less = else-untouched (status l number) (λ n. none-marked last l number s.phase marked (none l) (old.touched l number less below n).0)
 
   -- it is with the lane, or retired

@@ -6,7 +6,7 @@ use mathlib.Core.Logic.{dite}
 use native.Mathlib.Decide.{ℕ_discrete}
 use Rattle.keybits.specs.declared.shape.Shape.{Shape}
 use Rattle.keybits.specs.Places.{shard_of}
-use Rattle.keybits.specs.Shapes.{is_place}
+use Rattle.keybits.specs.Shapes.{callers, is_place}
 use Rattle.seqpool.specs.declared.act.Act.{Act}
 use Rattle.seqpool.specs.declared.act.Act.TheVariants as acts
 use Rattle.seqpool.specs.Pool.{with, home, Spot, Pool, has, touches, changed, fresh, pool_after}
@@ -116,9 +116,9 @@ module _ {T : Type 0} (content : T → List ℕ) (room : T → ℕ) (spots : ℕ
   left-before : (l p k : ℕ) (left : Status) → left ≢ Untouched → returned.status l p k ≡ left → q.status l p k ≡ left
   left-before l p k left some is = as-before (eqb l lane && eqb p place) (q.status l p k) left some is
 
-  module _ (less : lane < z.lanes) (is : (pool_after z history place).phase ≡ with lane) (rests : (k : ℕ) → k < z.lanes → q.status lane place k ≡ at_rest place k) where
+  module _ (less : lane < (callers z)) (is : (pool_after z history place).phase ≡ with lane) (rests : (k : ℕ) → k < (callers z) → q.status lane place k ≡ at_rest place k) where
     -- of the place no slot is touched
-    none-touched : (l k : ℕ) → l < z.lanes → k < z.lanes → returned.status l place k ≢ Untouched → ⊥
+    none-touched : (l k : ℕ) → l < (callers z) → k < (callers z) → returned.status l place k ≢ Untouched → ⊥
     none-touched l k b u some = dite (ℕ_discrete l lane)
         (λ e. some (ap (λ (m : ℕ). returned.status m place k) e ∙ left-here k))
         (λ other.
@@ -127,7 +127,7 @@ module _ {T : Type 0} (content : T → List ℕ) (room : T → ℕ) (spots : ℕ
         other (sym may))
 
     -- its slots are at rest
-    rests-now : (k : ℕ) → is_place z place ≡ true → k < z.lanes → RestsAs content room spots slots place k (q.stored place) (eqb k (shard_of place))
+    rests-now : (k : ℕ) → is_place z place ≡ true → k < (callers z) → RestsAs content room spots slots place k (q.stored place) (eqb k (shard_of place))
     rests-now k i u = rests-from content room spots slots place k (q.stored place) (eqb k (shard_of place)) (q.status lane place k) (rests k u)
         (s.emptied lane place k less i u) (s.whole lane place k less i u)
 
@@ -188,13 +188,13 @@ module _ {T : Type 0} (content : T → List ℕ) (room : T → ℕ) (spots : ℕ
   knows-still : (l p : ℕ) → mine l p ≡ false → collected.knows l p ≡ q.knows l p
   knows-still l p e = ap (λ (b : Bool). cond b (q.stored p) (q.knows l p)) e
 
-  module _ (less : lane < z.lanes) (homes : (p : ℕ) → has places p ≡ true → (pool_after z history p).phase ≡ home) where
+  module _ (less : lane < (callers z)) (homes : (p : ℕ) → has places p ≡ true → (pool_after z history p).phase ≡ home) where
     -- no lane touched a slot of a home place
-    none-moved : (l p k : ℕ) → has places p ≡ true → l < z.lanes → k < z.lanes → q.status l p k ≢ Untouched → ⊥
+    none-moved : (l p k : ℕ) → has places p ≡ true → l < (callers z) → k < (callers z) → q.status l p k ≢ Untouched → ⊥
     none-moved l p k of b u some = let may : ⊥ = rw (homes p of) at (s.touched l p k b u some).0 in may
 
     -- so its slots are at rest
-    rests-home : (p k : ℕ) → has places p ≡ true → is_place z p ≡ true → k < z.lanes → RestsAs content room spots slots p k (q.stored p) (eqb k (shard_of p))
+    rests-home : (p k : ℕ) → has places p ≡ true → is_place z p ≡ true → k < (callers z) → RestsAs content room spots slots p k (q.stored p) (eqb k (shard_of p))
     rests-home p k of i u = rw (homes p of) at (s.untouched p k i u (λ l b. untouched-is (q.status l p k) (none-moved l p k of b u)))
 
     collect_keeps : Shared content room spots z (history ++ collecting ∷ []) (kept ++ 0 ∷ []) slots collected

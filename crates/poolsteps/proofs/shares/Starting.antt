@@ -1,6 +1,6 @@
 -- Share, before the first step.
 use Rattle.poolsteps.specs.Spot.{Spot}
-use Rattle.std.proofs.Common.{◌≡◌, ◌≢◌, ⊎_elim, ℕ, Bool, true, false, cond, eqb, List, refl, ap, sym, ◌∙◌, eq-eqb, eqb-true}
+use Rattle.std.proofs.Common.{arith, ◌≡◌, ◌≢◌, ⊎_elim, ℕ, Bool, true, false, cond, eqb, List, refl, ap, sym, ◌∙◌, eq-eqb, eqb-true}
 use Rattle.std.proofs.lemmas.Bool.{cases_Bool}
 use Rattle.keybits.specs.Places.{shard_of}
 use Rattle.keybits.proofs.ShapeLemmas.{is_place-parts}
@@ -25,7 +25,7 @@ first-not_whole false e = cc e
 pub first-share-law : {T : Type 0} (content : T → List ℕ) (room : T → ℕ) (spots : ℕ → Spot) → FirstShareLaw content room spots
 first-share-law content room spots z slots limits empty = record {
   untouched = λ place number inside below none.
-      let bad : Emptied ≡ Untouched = sym (first-own place number) ∙ none (shard_of place) (is_place-parts z place inside).0 in absurd (cc bad);
+      let bad : Emptied ≡ Untouched = sym (first-own place number) ∙ none (shard_of place) (let low = (is_place-parts z place inside).0 in omega arith) in absurd (cc bad);
   emptied = λ l place number less inside below e. empty place number inside below;
   whole = λ l place number less inside below e. absurd (first-not_whole (eqb (shard_of place) l) e);
   touched = λ l place number less below n. (first-touched l place number n, refl);

@@ -7,7 +7,7 @@ use Rattle.core.specs.declared.slots.Slots.{Slots}
 use Rattle.core.specs.Mem.Slots.{slots_items, slots_ptr}
 use Rattle.keybits.specs.declared.shape.Shape.{Shape}
 use Rattle.keybits.specs.Places.{shard_of}
-use Rattle.keybits.specs.Shapes.{IsShape, is_place, shard_places, index_of}
+use Rattle.keybits.specs.Shapes.{callers, IsShape, is_place, shard_places, index_of}
 use Rattle.keybits.proofs.ShapeLemmas.{is_place-parts, position_of-injective}
 use Rattle.std.proofs.lemmas.Bool.{cases_lt}
 use Rattle.shardpool.specs.Marks.{IsIdleWord}
@@ -23,7 +23,7 @@ use Rattle.shardpool.specs.Remains.{IsDrained, DrainsShard}
 module _ {T : Type 0} (z : Shape) where
   -- all slots of a place are as before
   abbrev pub SameSlots : List (Option (Share T)) → List (Option (Share T)) → ℕ → Type 0
-  SameSlots old new place = (lane : ℕ) → lane < z.lanes → slice_get new (slot_index z place lane) ≡ slice_get old (slot_index z place lane)
+  SameSlots old new place = (lane : ℕ) → lane < (callers z) → slice_get new (slot_index z place lane) ≡ slice_get old (slot_index z place lane)
 
   part-stays : (old new : List (Option (Share T))) (index : ℕ) (spot : CellSpot) (cell number of : ℕ) → slice_get new index ≡ slice_get old index
       → HasPart old index spot cell number of → HasPart new index spot cell number of
@@ -33,14 +33,14 @@ module _ {T : Type 0} (z : Shape) where
   pub spread-stays : {spots : ℕ → CellSpot} (old new : List (Option (Share T))) (place : ℕ) → SameSlots old new place → IsSpread spots z old place → IsSpread spots z new place
   spread-stays {spots} old new place same h = record {
     cell = h.cell;
-    each = λ lane low. part-stays old new (slot_index z place lane) (spots place) h.cell lane z.lanes (same lane low) (h.each lane low);
+    each = λ lane low. part-stays old new (slot_index z place lane) (spots place) h.cell lane (callers z) (same lane low) (h.each lane low);
   }
 
   pub resting-stays : {spots : ℕ → CellSpot} (old new : List (Option (Share T))) (place : ℕ) → is_place z place ≡ true → SameSlots old new place → IsResting spots z old place
       → IsResting spots z new place
   resting-stays {spots} old new place inside same h = record {
     cell = h.cell;
-    part = part-stays old new (slot_index z place (shard_of place)) (spots place) h.cell 0 1 (same (shard_of place) (is_place-parts z place inside).0) h.part;
+    part = part-stays old new (slot_index z place (shard_of place)) (spots place) h.cell 0 1 (same (shard_of place) (let low = (is_place-parts z place inside).0 in omega (arith, low))) h.part;
   }
 
   -- so a place has the cell that it had
@@ -55,8 +55,8 @@ module _ {T : Type 0} (z : Shape) where
   -- or has none, as before
   no-cell-stays : (old new : List (Option (Share T))) (place word : ℕ) → is_place z place ≡ true → SameSlots old new place → HasNoCell z old place word → HasNoCell z new place word
   no-cell-stays old new place word inside same h = record {
-    unrested = λ none. same (shard_of place) (is_place-parts z place inside).0 ∙ h.unrested none;
-    unretired = λ bits. same (shard_of place) (is_place-parts z place inside).0 ∙ h.unretired bits;
+    unrested = λ none. same (shard_of place) (let low = (is_place-parts z place inside).0 in omega (arith, low)) ∙ h.unrested none;
+    unretired = λ bits. same (shard_of place) (let low = (is_place-parts z place inside).0 in omega (arith, low)) ∙ h.unretired bits;
     unspread = λ bits lane low. same lane low ∙ h.unspread bits lane low;
   }
 
@@ -70,7 +70,7 @@ module _ {T : Type 0} (z : Shape) where
   }
     where
       here : slice_get new (slot_index z place (shard_of place)) ≡ slice_get old (slot_index z place (shard_of place))
-      here = same (shard_of place) (is_place-parts z place inside).0
+      here = same (shard_of place) (let low = (is_place-parts z place inside).0 in omega (arith, low))
 
   -- the places of the shard before the index are gone over
   pub record DrainsTo (shard : ℕ) (life : ℕ → ℕ) (index : ℕ) (old new : Slots (Option (Share T))) : Type 0 where

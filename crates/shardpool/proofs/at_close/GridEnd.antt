@@ -1,5 +1,5 @@
 -- What the end of a pool's table tells of its lanes.
-use Rattle.std.proofs.Common.{◌≡◌, ℕ, ◌<◌, List, length, Option, Some, refl, sym, ap, ◌∙◌, subst, arith, slice_get}
+use Rattle.std.proofs.Common.{◌≡◌, ℕ, ◌<◌, List, [], ◌++◌, length, Option, Some, refl, sym, ap, ◌∙◌, subst, arith, slice_get}
 use Rattle.std.specs.List.{All}
 use Rattle.std.proofs.Math.ListN.{get_or}
 use Rattle.std.proofs.lemmas.Option.{slice_get_within, slice_get-get_or}
@@ -16,16 +16,19 @@ use Rattle.poolsteps.specs.declared.view.View.{View}
 use Rattle.poolsteps.specs.Layout.{words_in, shard_start, spots_at}
 use Rattle.keybits.specs.Shapes.{shard_places}
 use Rattle.poolsteps.specs.Rule.{World}
-use Rattle.poolsteps.specs.Grids.{AreHands, EndsWith}
+use Rattle.poolsteps.specs.Grids.{IsOf, EndsWith}
+use Rattle.poolsteps.specs.Views.{IsOne}
 use Rattle.shardpool.specs.declared.pool.LaneState.{LaneState}
 use Rattle.shardpool.specs.Tokens.{LaneOf}
 use Rattle.shardpool.specs.LaneStates.{Fits}
-use Rattle.shardpool.specs.Closings.{AreLanes, IsLast, IsLastHistory, AreLast}
+use Rattle.shardpool.specs.Closings.{AreAllLanes, IsLast, IsLastHistory, AreLast}
 use Rattle.shardpool.specs.Stores.{AreOfShard}
 use Rattle.shardpool.specs.Remains.{MayHandBack, IsStripped, AreStripped, HandsBack, HasCells}
 use Rattle.shardpool.specs.Partings.{AreParted}
 use Rattle.shardpool.proofs.frame.LaneFacts.{lane_of}
 use Rattle.shardpool.proofs.at_close.RemainingShares.{may-hand-back, has-cells}
+use Rattle.shardpool.proofs.at_close.GoneGuests.{AreGone}
+use Rattle.shardpool.proofs.at_close.GuestHands.{in-front}
 use Rattle.shardpool.proofs.at_close.LastHistory.{IsEnded, entry-at, last-are, last-history}
 
 -- a lane's state tells the same without its rows
@@ -45,28 +48,25 @@ still-last {T} {z} {history} {words} {lane} stripped is = subst (λ (x : LaneSta
 })
 
 module _ {T : Type 0} {content : T → List ℕ} {room : T → ℕ} (grid : Grid T) {lanes : List LaneOf} {hands : List (Seat (Option (Share T)) View)} {states : List (LaneState T)}
-    (are : AreLanes (record { table = grid.table.shared.table_id; directory = grid.objects.ptr; shape = grid.shape }) lanes) (parted : AreParted content room lanes hands states) where
+    (are : AreAllLanes (record { table = grid.table.shared.table_id; directory = grid.objects.ptr; shape = grid.shape }) lanes) (parted : AreParted content room lanes hands states) where
   -- there is a lane
-  some-hand : 0 < length hands
+  pub some-hand : 0 < length hands
   some-hand =
       let some = grid.checked.lanes.0 in let all = are.count in let same = parted.count.0 in
       omega (arith, some, all, same)
 
-  -- the hands are the grid's
-  pub are-hands : AreHands grid hands
-  are-hands = record {
-    some_hand = some-hand;
-    each = λ index hand at.
-        let low = slice_get_within hands index hand at in
-        let same = parted.count.0 in let wide = parted.count.1 in
-        let lane = entry-at lanes index (omega (arith, low, same)) in
-        let state = entry-at states index (omega (arith, low, same, wide)) in
-        let is = parted.each index lane.0 hand state.0 lane.1 at state.1 in (
-          sym (ap (λ (l : LaneOf). l.table) is.lane_is) ∙ (are.owned index lane.0 lane.1).0,
-          is.fits.seat.one,
-          is.empty,
-        );
-  }
+  -- the lanes' hands are the grid's
+  pub is-hand : (index : ℕ) (hand : Seat (Option (Share T)) View) → slice_get hands index ≡ Some hand → IsOf grid hand × IsOne hand.me.0 × (hand.me.1 ≡ [])
+  is-hand index hand at =
+      let low = slice_get_within hands index hand at in
+      let same = parted.count.0 in let wide = parted.count.1 in
+      let lane = entry-at lanes index (omega (arith, low, same)) in
+      let state = entry-at states index (omega (arith, low, same, wide)) in
+      let is = parted.each index lane.0 hand state.0 lane.1 at state.1 in (
+        sym (ap (λ (l : LaneOf). l.table) is.lane_is) ∙ (are.owned index lane.0 lane.1).0,
+        is.fits.seat.one,
+        is.empty,
+      )
 
   -- what a lane has of objects is of the grid's directory, and of the places of its shard
   its-objects : (index : ℕ) (s : LaneState T) → slice_get states index ≡ Some s → (s.objects.directory ≡ grid.objects.ptr) × AreOfShard grid.shape s.number s.objects
@@ -96,7 +96,9 @@ module _ {T : Type 0} {content : T → List ℕ} {room : T → ℕ} (grid : Grid
   pub as-many : (left : List (LaneState T)) → AreStripped states left → length left ≡ grid.shape.lanes
   as-many left stripped = stripped.0 ∙ (parted.count.1 ∙ are.count)
 
-  module _ {words : List ℕ} {slots : List (Option (Share T))} {w : World} (ends : EndsWith content room grid hands words slots w) where
+  -- beside the hands of guests, which are gone
+  module _ {words : List ℕ} {slots : List (Option (Share T))} {w : World} (others : List (Seat (Option (Share T)) View))
+      (ends : EndsWith content room grid (hands ++ others) words slots w) (gone : AreGone grid.shape w) where
     -- what a lane keeps stands beside the last world
     all-ended : (index : ℕ) (lane : LaneOf) (s : LaneState T) → slice_get lanes index ≡ Some lane → slice_get states index ≡ Some s → IsEnded content room grid.shape w lane s
     all-ended index lane s at_lane at_shelf =
@@ -110,19 +112,20 @@ module _ {T : Type 0} {content : T → List ℕ} {room : T → ℕ} (grid : Grid
           lane_is = refl;
           fits = subst (λ (y : Shape). Fits content room y hand.me.0 s) shape is.fits;
           free = is.free;
-          seen = ends.seen index hand there.1;
-          record_is = ends.records index hand there.1;
+          seen = ends.seen index hand (in-front hands others index hand there.1);
+          record_is = ends.records index hand (in-front hands others index hand there.1);
         } in
         subst (λ (x : LaneOf). IsEnded content room grid.shape w x s) (sym is.lane_is) ended
 
     -- so all that they keep, the last words and the history tell of each other, also when the rows are gone
     pub ends-last : {left : List (LaneState T)} → AreStripped states left → AreLast grid.shape w.history lanes left (words_in grid.shape words)
     ends-last {left} stripped =
-        let last = last-are ends.stands.rule grid.table.shared.table_id grid.objects.ptr lanes states are parted.count.1 all-ended in record {
+        let last = last-are ends.stands.rule grid.table.shared.table_id grid.objects.ptr lanes states are parted.count.1 all-ended gone in record {
           legal = last.legal;
           state = last.state;
           homes = last.homes;
           alone = last.alone;
+          bits = last.bits;
           count = (last.count.0, stripped.0 ∙ last.count.1);
           all = last.all;
           each = λ index lane one at_lane at_one.
@@ -132,14 +135,14 @@ module _ {T : Type 0} {content : T → List ℕ} {room : T → ℕ} (grid : Grid
 
     -- the shares of the rows may go back
     pub ends-may : MayHandBack grid.shape states
-    ends-may = may-hand-back ends.stands.rule grid.table.shared.table_id grid.objects.ptr lanes states are parted.count.1 all-ended
+    ends-may = may-hand-back ends.stands.rule grid.table.shared.table_id grid.objects.ptr lanes states are parted.count.1 all-ended gone
 
     -- and then the slots have all cells
     pub ends-cells : {old new : Slots (Option (Share T))} → slots_items old ≡ slots → HandsBack grid.shape states old new → HasCells (spots_at grid.objects.ptr grid.shape) grid.shape w.history lanes (slots_items new)
     ends-cells {old} is back =
-        has-cells ends.stands.rule grid.table.shared.table_id grid.objects.ptr lanes states are parted.count.1 all-ended grid.checked ends.homes ends.stands.shared
+        has-cells ends.stands.rule grid.table.shared.table_id grid.objects.ptr lanes states are parted.count.1 all-ended gone grid.checked ends.homes ends.stands.shared
         (λ index value at. ap (λ (xs : List (Option (Share T))). get_elem? xs index) is ∙ ends.at_home index value at) back
 
     -- and the history is the last
     pub ends-history : IsLastHistory (record { table = grid.table.shared.table_id; directory = grid.objects.ptr; shape = grid.shape }) lanes w.history
-    ends-history = last-history ends.stands.rule grid.table.shared.table_id grid.objects.ptr lanes states are parted.count.1 all-ended ends.stands.owners
+    ends-history = last-history ends.stands.rule grid.table.shared.table_id grid.objects.ptr lanes states are parted.count.1 all-ended gone ends.stands.owners

@@ -1,12 +1,13 @@
 -- What all lanes of a pool keep, when it is closed, and its last history.
-use Rattle.std.proofs.Common.{◌≡◌, ◌≢◌, ⊎_elim, ℕ, ◌<◌, true, false, List, length, Some, sym, ap, ◌∙◌, subst, arith, slice_get}
+use Rattle.std.proofs.lemmas.Bool.{cases_lt}
+use Rattle.std.proofs.Common.{◌≡◌, ◌≢◌, ⊎_elim, ℕ, ◌<◌, ◌≤◌, true, false, List, length, Some, sym, ap, ◌∙◌, subst, arith, slice_get}
 use Rattle.std.proofs.lemmas.Option.{slice_get_cases, slice_get_within}
 use mathlib.Core.List.{IsPrefix}
 use denote.RawPtr.{Ptr}
 use Rattle.atomic_table.specs.Seated.{TableId}
 use Rattle.keybits.specs.declared.shape.Shape.{Shape}
 use Rattle.keybits.specs.Places.{shard_of}
-use Rattle.keybits.specs.Shapes.{is_place}
+use Rattle.keybits.specs.Shapes.{is_place, callers}
 use Rattle.freelists.specs.Queues.{AreFree}
 use Rattle.seqpool.specs.declared.act.Act.{Act}
 use Rattle.seqpool.specs.Pool.{Phase, with, published, references_in, is_marked, pool_after}
@@ -19,11 +20,12 @@ use Rattle.poolsteps.specs.Views.{the_lane}
 use Rattle.poolsteps.specs.Rule.{World, IsRecord}
 use Rattle.shardpool.specs.declared.pool.LaneState.{LaneState}
 use Rattle.shardpool.specs.Tokens.{LaneOf}
-use Rattle.shardpool.specs.Places.{left_with}
+use Rattle.seatcalls.specs.Left.{left_with}
 use Rattle.shardpool.specs.LaneStates.{Fits}
-use Rattle.shardpool.specs.Closings.{AreLanes, IsLast, IsLastHistory, AreLast}
-use Rattle.shardpool.proofs.frame.OtherShards.{alone-at-end}
+use Rattle.shardpool.specs.Closings.{AreAllLanes, IsLast, IsLastHistory, AreLast}
+use Rattle.seatcalls.proofs.parts.OtherShards.{alone-at-end}
 use Rattle.shardpool.proofs.frame.LaneFacts.{lane_of}
+use Rattle.shardpool.proofs.at_close.GoneGuests.{AreGone}
 use Rattle.shardpool.proofs.at_close.LaneParts.{own-mine, own-idle, lane-last}
 
 -- a lane and its state, beside the world in which the table of its pool ended
@@ -43,9 +45,10 @@ marked-held : (phase : Phase) (content : List ℕ) (references : ℕ → ℕ) (l
 marked-held phase content references lane is some = subst (λ (p : Phase). 0 < references_in p lane) is some
 
 module _ {T : Type 0} {content : T → List ℕ} {room : T → ℕ} {z : Shape} {w : World} {words : Words} (rule : Rule z (moment words w.history w.lanes))
-    (table : TableId) (directory : Ptr) (lanes : List LaneOf) (states : List (LaneState T)) (are : AreLanes (record { table = table; directory = directory; shape = z }) lanes)
+    (table : TableId) (directory : Ptr) (lanes : List LaneOf) (states : List (LaneState T)) (are : AreAllLanes (record { table = table; directory = directory; shape = z }) lanes)
     (wide : length states ≡ length lanes)
-    (each : (index : ℕ) (lane : LaneOf) (s : LaneState T) → slice_get lanes index ≡ Some lane → slice_get states index ≡ Some s → IsEnded content room z w lane s) where
+    (each : (index : ℕ) (lane : LaneOf) (s : LaneState T) → slice_get lanes index ≡ Some lane → slice_get states index ≡ Some s → IsEnded content room z w lane s)
+    (gone : AreGone z w) where
   -- the state of a lane
   state-of : (index : ℕ) (lane : LaneOf) → slice_get lanes index ≡ Some lane → (s : LaneState T) × IsEnded content room z w lane s
   state-of index lane at =
@@ -61,16 +64,21 @@ module _ {T : Type 0} {content : T → List ℕ} {room : T → ℕ} {z : Shape} 
       let state = state-of there.0 lane there.2 in
       subst P (sym (ap (λ (x : LaneOf). x.number) state.1.lane_is) ∙ there.3) (each_lane lane state.0 state.1)
 
-  -- no lane has anything under way
-  all-idle : (number : ℕ) → number < z.lanes → w.lanes.under number ≡ Nothing
-  all-idle = by-lanes (λ n. w.lanes.under n ≡ Nothing) (λ lane s e. own-idle rule lane.table e.fits e.seen e.record_is)
+  -- nobody has anything under way
+  all-idle : (number : ℕ) → number < callers z → w.lanes.under number ≡ Nothing
+  all-idle number low = ⊎_elim
+      (λ (lane : number < z.lanes). by-lanes (λ n. w.lanes.under n ≡ Nothing) (λ lane s e. own-idle rule lane.table e.fits e.seen e.record_is) number lane)
+      (λ (guest : z.lanes ≤ number). (gone number guest low).idle)
+      (cases_lt number z.lanes)
 
   -- a place that is with a lane is of the lane's shard
   alone-last : (place owner : ℕ) → is_place z place ≡ true → (pool_after z w.history place).phase ≡ with owner → shard_of place ≡ owner
-  alone-last = alone-at-end z w.history rule.legal (λ l place low inside other.
-      by-lanes (λ n. (p : ℕ) → is_place z p ≡ true → shard_of p ≢ n → left_with z p (acts_of n w.history) false ≡ false)
+  alone-last = alone-at-end z w.history rule.legal (λ l place low inside other. ⊎_elim
+      (λ (lane : l < z.lanes). by-lanes (λ n. (p : ℕ) → is_place z p ≡ true → shard_of p ≢ n → left_with z p (acts_of n w.history) false ≡ false)
       (λ lane s e p within off. subst (λ (mine : List Act). left_with z p mine false ≡ false) (own-mine rule lane.table e.fits e.seen e.record_is) (e.fits.seat.alone p within off))
-      l low place inside other)
+      l lane place inside other)
+      (λ (guest : z.lanes ≤ l). (gone l guest low).left place inside)
+      (cases_lt l z.lanes))
 
   -- what the lanes keep, the last words and the history tell of each other
   pub last-are : AreLast z w.history lanes states words
@@ -79,6 +87,7 @@ module _ {T : Type 0} {content : T → List ℕ} {room : T → ℕ} {z : Shape} 
     state = rule.state;
     homes = rule.home.stacks;
     alone = alone-last;
+    bits = λ shard low row. rule.home.bits shard row low;
     count = (are.count, wide ∙ are.count);
     all = are.all;
     each = λ index lane s at_lane at_shelf.
@@ -97,5 +106,8 @@ module _ {T : Type 0} {content : T → List ℕ} {room : T → ℕ} {z : Shape} 
         own-mine rule lane.table e.fits e.seen e.record_is ∙ ap (λ (n : ℕ). acts_of n w.history) (sym (ap (λ (x : LaneOf). x.number) e.lane_is));
     held = λ place content references inside is.
         let some = quiet-law z (moment words w.history w.lanes) rule all-idle place inside (ap is_marked is) in
-        (some.0, some.1, marked-held (pool_after z w.history place).phase content references some.0 is some.2);
+        ⊎_elim
+        (λ (lane : some.0 < z.lanes). (some.0, lane, marked-held (pool_after z w.history place).phase content references some.0 is some.2))
+        (λ (guest : z.lanes ≤ some.0). let none = (gone some.0 guest some.1).bare place inside in let more = some.2 in absurd (omega (arith, none, more)))
+        (cases_lt some.0 z.lanes);
   }

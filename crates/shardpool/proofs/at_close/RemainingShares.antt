@@ -1,5 +1,6 @@
 -- What the slots of a closed pool have, when all shares are back: each published place its shares, and each place that is home or on a taken chain its cell.
-use Rattle.std.proofs.Common.{◌≡◌, ℕ, zero, suc, ◌<◌, Bool, true, false, cond, eqb, List, [], ◌∷◌, length, refl, sym, ap, ◌∙◌, subst, arith, eq-eqb}
+use Rattle.std.proofs.lemmas.Bool.{cases_lt}
+use Rattle.std.proofs.Common.{◌≡◌, ◌≤◌, ⊎_elim, ℕ, zero, suc, ◌<◌, Bool, true, false, cond, eqb, List, [], ◌∷◌, length, refl, sym, ap, ◌∙◌, subst, arith, eq-eqb}
 use Rattle.std.specs.Prelude.{Option, Some, slice_get}
 use Rattle.std.proofs.lemmas.Option.{slice_get_within}
 use mathlib.Core.Logic.{dite}
@@ -11,17 +12,15 @@ use Rattle.atomic_table.specs.Seated.{TableId}
 use Rattle.core.specs.declared.slots.Slots.{Slots}
 use Rattle.core.specs.Mem.Slots.{slots_items}
 use Rattle.keybits.specs.declared.shape.Shape.{Shape}
-use Rattle.keybits.specs.Keys.{key_number, place_of, generation_of, is_key}
+use Rattle.keybits.specs.Keys.{place_of, generation_of}
 use Rattle.keybits.specs.Places.{shard_of}
-use Rattle.keybits.specs.Shapes.{IsShape, is_place}
+use Rattle.keybits.specs.Shapes.{callers, IsShape, is_place}
 use Rattle.keybits.proofs.ShapeLemmas.{is_place-parts}
 use Rattle.seqpool.specs.Pool.{Phase, with, published, home, retired, has, references_in, is_current, references, pool_after}
-use Rattle.seqpool.proofs.Ranks.{current-from}
 use Rattle.steplaws.specs.Facts.{Words, Rule, moment, is_home}
-use Rattle.steplaws.proofs.Generations.{key_now}
 use Rattle.poolsteps.specs.declared.view.Stored.{Stored}
 use Rattle.poolsteps.specs.declared.view.Status.TheVariants.{Untouched, Emptied, Whole}
-use Rattle.poolsteps.specs.Shares.{Slots as Cells, HasShare, StandsAs, RestsAs, MayHave, reclaimer, Shared}
+use Rattle.poolsteps.specs.Shares.{at_rest, Slots as Cells, HasShare, StandsAs, RestsAs, MayHave, reclaimer, Shared}
 use Rattle.poolsteps.proofs.shares.Cases.{untouched-is}
 use denote.RawPtr.{Ptr}
 use Rattle.poolsteps.specs.Share.{Share}
@@ -35,13 +34,14 @@ use Rattle.shardpool.specs.HeldKeys.{HeldKey}
 use Rattle.shardpool.specs.declared.pool.LaneState.{LaneState}
 use Rattle.shardpool.specs.LaneStates.{FitsRow}
 use Rattle.shardpool.specs.Tokens.{LaneOf}
-use Rattle.shardpool.specs.Closings.{AreLanes}
+use Rattle.shardpool.specs.Closings.{AreAllLanes}
 use Rattle.shardpool.specs.Remains.{MayHandBack, HandsBack, HasCells}
 use Rattle.shardpool.proofs.count.Rounds.{same-index}
+use Rattle.shardpool.proofs.at_close.GoneGuests.{phase-at, key-at, key-is, refs-here, AreGone}
 use Rattle.shardpool.proofs.at_close.LaneParts.{still-refs, lane-last, own-mine}
 use Rattle.shardpool.proofs.at_close.LastHistory.{IsEnded, entry-at}
-use Rattle.shardpool.specs.Places.{has_retired}
-use Rattle.shardpool.proofs.frame.RetiredPlaces.{retired-by-one}
+use Rattle.seatcalls.specs.Left.{has_retired}
+use Rattle.seatcalls.proofs.parts.RetiredPlaces.{retired-by-one}
 use Rattle.seqpool.specs.declared.act.Act.{Act}
 use Rattle.seqpool.specs.Histories.{acts_of}
 
@@ -68,27 +68,19 @@ found-at (y ∷ ys) (suc i) x at = found-at ys i x at
 
 -- ---- one lane and a place
 
--- the phase of a place at the end
-abbrev phase-at : Shape → World → ℕ → Phase
-phase-at z w place = (pool_after z w.history place).phase
-
--- the key that it has then
-abbrev key-at : Shape → World → ℕ → ℕ
-key-at z w place = key_number z.tag place (pool_after z w.history place).generation
-
-module _ {z : Shape} (w : World) {words : Words} (rule : Rule z (moment words w.history w.lanes)) (place : ℕ) (inside : is_place z place ≡ true) where
-  key-is : (is_key z (key-at z w place) ≡ true) × (place_of (key-at z w place) ≡ place) × (generation_of (key-at z w place) ≡ (pool_after z w.history place).generation)
-  key-is = key_now z rule.limits rule.wide w.history place inside
-
-  key-current : is_current z (pool_after z w.history) (key-at z w place) ≡ true
-  key-current =
-      let k = key-is in
-      current-from z (pool_after z w.history) (key-at z w place) k.0 (ap (λ (p : ℕ). (pool_after z w.history p).generation) k.1 ∙ sym k.2)
-
-  refs-here : (lane : ℕ) → references z (pool_after z w.history) lane (key-at z w place) ≡ references_in (phase-at z w place) lane
-  refs-here lane =
-      ap (λ (b : Bool). cond b (references_in (pool_after z w.history (place_of (key-at z w place))).phase lane) 0) key-current
-      ∙ ap (λ (p : ℕ). references_in (pool_after z w.history p).phase lane) key-is.1
+-- nobody touched the slot of a caller without references
+left-alone : {T : Type 0} {content : T → List ℕ} {room : T → ℕ} {spots : ℕ → CellSpot} {slots : Cells T} (z : Shape) (w : World) (place : ℕ) → is_place z place ≡ true
+    → Shared content room spots z w.history w.kept slots w.stock → (bytes : List ℕ) (references : ℕ → ℕ) (mark : Bool) → phase-at z w place ≡ published bytes references mark
+    → (number : ℕ) → number < callers z → references_in (phase-at z w place) number ≡ 0
+    → HasShare content room spots slots place number (w.stock.stored place) number (callers z)
+left-alone {T} {content} {room} {spots} {slots} z w place inside shared bytes references mark is number own_low zero_refs =
+    subst (StandsAs content room spots z slots place number (w.stock.stored place)) (ap is_home is)
+    (shared.untouched place number inside own_low (λ l low. untouched-is (w.stock.status l place number)
+    (λ touched.
+    let may = subst (MayHave (reclaimer w.history place) l number) is (shared.touched l place number low own_low touched).0 in
+    let refs : references_in (phase-at z w place) number ≡ references l = ap (λ (f : Phase). references_in f number) is ∙ ap references may.0 in
+    let some = may.1 in
+    absurd (omega (arith, refs, zero_refs, some)))))
 
 module _ {T : Type 0} {content : T → List ℕ} {room : T → ℕ} {z : Shape} {w : World} {words : Words} (rule : Rule z (moment words w.history w.lanes))
     (place : ℕ) (inside : is_place z place ≡ true) where
@@ -120,26 +112,14 @@ module _ {T : Type 0} {content : T → List ℕ} {room : T → ℕ} {z : Shape} 
       abbrev stored : Stored
       stored = w.stock.stored place
 
-      -- no lane touched the slot of a lane without references
-      left-alone : (bytes : List ℕ) (references : ℕ → ℕ) (mark : Bool) → phase-at z w place ≡ published bytes references mark → row.count ≡ 0
-          → HasShare content room spots slots place s.number stored s.number z.lanes
-      left-alone bytes references mark is none =
-          subst (StandsAs content room spots z slots place s.number stored) (ap is_home is)
-          (shared.untouched place s.number inside e.fits.seat.below (λ l low. untouched-is (w.stock.status l place s.number)
-          (λ touched.
-          let may = subst (MayHave (reclaimer w.history place) l s.number) is (shared.touched l place s.number low e.fits.seat.below touched).0 in
-          let refs : references_in (phase-at z w place) s.number ≡ references l = ap (λ (f : Phase). references_in f s.number) is ∙ ap references may.0 in
-          let zero_refs = none-referred none in
-          let some = may.1 in
-          absurd (omega (arith, refs, zero_refs, some)))))
-
       -- the share under the references is one of the cell
-      share-of-cell : (some : 0 < row.count) → (s' : Share T) × (row.share ≡ Some s') × (s'.cell ≡ stored.cell) × (s'.spot ≡ spots_at s.objects.directory z place) × (s'.number ≡ s.number) × (s'.of ≡ z.lanes)
+      share-of-cell : (some : 0 < row.count) → (s' : Share T) × (row.share ≡ Some s') × (s'.cell ≡ stored.cell) × (s'.spot ≡ spots_at s.objects.directory z place) × (s'.number ≡ s.number) × (s'.of ≡ callers z)
       share-of-cell some =
           let h = fit.held some in
           let held = h.2 in
           let l : ℕ = (the_lane lane.book).lane in
-          let low : l < z.lanes = subst (λ (n : ℕ). n < z.lanes) e.fits.seat.number_is e.fits.seat.below in
+          let mine_low = e.fits.seat.below in
+          let low : l < callers z = subst (λ (n : ℕ). n < callers z) e.fits.seat.number_is (omega (arith, mine_low)) in
           let status : w.stock.status l place l ≡ Emptied = sym (e.record_is.deeds place l) ∙ held.emptied in
           let knows = (shared.touched l place l low low (λ none. let bad : Emptied ≡ Untouched = sym status ∙ none in cc bad)).1 in
           let known : known_of (the_lane lane.book) place ≡ stored = e.record_is.cells place ∙ knows in
@@ -148,9 +128,10 @@ module _ {T : Type 0} {content : T → List ℕ} {room : T → ℕ} {z : Shape} 
 -- ---- all lanes
 
 module _ {T : Type 0} {content : T → List ℕ} {room : T → ℕ} {z : Shape} {w : World} {words : Words} (rule : Rule z (moment words w.history w.lanes))
-    (table : TableId) (directory : Ptr) (lanes : List LaneOf) (states : List (LaneState T)) (are : AreLanes (record { table = table; directory = directory; shape = z }) lanes)
+    (table : TableId) (directory : Ptr) (lanes : List LaneOf) (states : List (LaneState T)) (are : AreAllLanes (record { table = table; directory = directory; shape = z }) lanes)
     (wide : length states ≡ length lanes)
-    (each : (index : ℕ) (lane : LaneOf) (s : LaneState T) → slice_get lanes index ≡ Some lane → slice_get states index ≡ Some s → IsEnded content room z w lane s) where
+    (each : (index : ℕ) (lane : LaneOf) (s : LaneState T) → slice_get lanes index ≡ Some lane → slice_get states index ≡ Some s → IsEnded content room z w lane s)
+    (gone : AreGone z w) where
   -- the lane of a state
   lane-of : (index : ℕ) (s : LaneState T) → slice_get states index ≡ Some s → (lane : LaneOf) × (slice_get lanes index ≡ Some lane) × IsEnded content room z w lane s
   lane-of index s at =
@@ -199,7 +180,7 @@ module _ {T : Type 0} {content : T → List ℕ} {room : T → ℕ} {z : Shape} 
           absurd (omega (arith, refs, zero_refs)))
 
       -- what a slot had, it still has
-      part-now : (number label of : ℕ) → number < z.lanes → references_in (phase-at z w place) number ≡ 0 → HasShare content room (spots_at directory z) (slots_in z homes) place number (w.stock.stored place) label of
+      part-now : (number label of : ℕ) → number < callers z → references_in (phase-at z w place) number ≡ 0 → HasShare content room (spots_at directory z) (slots_in z homes) place number (w.stock.stored place) label of
           → HasPart (slots_items new) (slot_index z place number) (spots_at directory z place) (w.stock.stored place).cell label of
       part-now number label of low none has =
           let share : Share T = has.0 in
@@ -213,36 +194,50 @@ module _ {T : Type 0} {content : T → List ℕ} {room : T → ℕ} {z : Shape} 
             of_is = has.2.of_is;
           }
 
-      -- a published place has the share of each lane
-      spread-now : (bytes : List ℕ) (references : ℕ → ℕ) (mark : Bool) → phase-at z w place ≡ published bytes references mark → IsSpread (spots_at directory z) z (slots_items new) place
-      spread-now bytes references mark is = record { cell = (w.stock.stored place).cell; each = part }
-        where
-          part : (number : ℕ) → number < z.lanes → HasPart (slots_items new) (slot_index z place number) (spots_at directory z place) (w.stock.stored place).cell number z.lanes
-          part number low =
-              let f = state-of-number number low in
-              let s : LaneState T = f.2 in
-              let e = f.4 in
-              let p_low = in-row z place inside in
-              let rows_wide = e.fits.rows.wide in
-              let row = entry-at s.rows.items (slot_start z place) (omega (arith, p_low, rows_wide)) in
-              subst (λ (n : ℕ). HasPart (slots_items new) (slot_index z place n) (spots_at directory z place) (w.stock.stored place).cell n z.lanes) f.5
-              (dite (ℕ_discrete row.0.count 0)
-              (λ none. part-now s.number s.number z.lanes e.fits.seat.below (none-referred rule place inside e row.0 row.1 none)
-              (left-alone rule place inside e row.0 row.1 shared bytes references mark is none))
-              (λ some.
-              let more : 0 < row.0.count = omega (arith, some) in
-              let h = share-of-cell rule place inside e row.0 row.1 shared more in
-              record {
-                share = h.0;
-                stands = hands.back f.0 s f.3 place inside row.0 h.0 row.1 more h.1;
-                cell_is = h.2;
-                spot_is = h.3 ∙ ap (λ (p : Ptr). spots_at p z place) (its-directory f.0 s f.3);
-                number_is = h.4;
-                of_is = h.5;
-              }))
+      -- so has the slot of a lane, which may have had a reference
+      of-lane : (bytes : List ℕ) (references : ℕ → ℕ) (mark : Bool) → phase-at z w place ≡ published bytes references mark → (number : ℕ) → number < z.lanes
+          → HasPart (slots_items new) (slot_index z place number) (spots_at directory z place) (w.stock.stored place).cell number (callers z)
+      of-lane bytes references mark is number lane =
+          let f = state-of-number number lane in
+          let s : LaneState T = f.2 in
+          let e = f.4 in
+          let p_low = in-row z place inside in
+          let rows_wide = e.fits.rows.wide in
+          let row = entry-at s.rows.items (slot_start z place) (omega (arith, p_low, rows_wide)) in
+          let own_low : s.number < callers z = let below = e.fits.seat.below in omega (arith, below) in
+          subst (λ (n : ℕ). HasPart (slots_items new) (slot_index z place n) (spots_at directory z place) (w.stock.stored place).cell n (callers z)) f.5
+          (dite (ℕ_discrete row.0.count 0)
+          (λ none. let unheld = none-referred rule place inside e row.0 row.1 none in
+          part-now s.number s.number (callers z) own_low unheld (left-alone z w place inside shared bytes references mark is s.number own_low unheld))
+          (λ some.
+          let more : 0 < row.0.count = omega (arith, some) in
+          let h = share-of-cell rule place inside e row.0 row.1 shared more in
+          record {
+            share = h.0;
+            stands = hands.back f.0 s f.3 place inside row.0 h.0 row.1 more h.1;
+            cell_is = h.2;
+            spot_is = h.3 ∙ ap (λ (p : Ptr). spots_at p z place) (its-directory f.0 s f.3);
+            number_is = h.4;
+            of_is = h.5;
+          }))
 
-      shard-low : shard_of place < z.lanes
-      shard-low = (is_place-parts z place inside).0
+      -- a published place has the share of each caller
+      spread-now : (bytes : List ℕ) (references : ℕ → ℕ) (mark : Bool) → phase-at z w place ≡ published bytes references mark → IsSpread (spots_at directory z) z (slots_items new) place
+      spread-now bytes references mark is = record {
+        cell = (w.stock.stored place).cell;
+        each = λ number low. ⊎_elim
+            (λ (lane : number < z.lanes). of-lane bytes references mark is number lane)
+            (λ (guest : z.lanes ≤ number).
+            let none = (gone number guest low).bare place inside in
+            part-now number number (callers z) low none (left-alone z w place inside shared bytes references mark is number low none))
+            (cases_lt number z.lanes);
+      }
+
+      shard-low : shard_of place < callers z
+      shard-low = let low = (is_place-parts z place inside).0 in omega (arith, low)
+
+      rest-whole : at_rest place (shard_of place) ≡ Whole
+      rest-whole = ap (λ (b : Bool). cond b Whole Emptied) (eq-eqb (shard_of place) (shard_of place) refl)
 
       -- a home place has its cell in its shard's slot
       home-now : phase-at z w place ≡ home → IsResting (spots_at directory z) z (slots_items new) place
@@ -253,24 +248,32 @@ module _ {T : Type 0} {content : T → List ℕ} {room : T → ℕ} {z : Shape} 
           let rests = subst (RestsAs content room (spots_at directory z) (slots_in z homes) place (shard_of place) (w.stock.stored place)) (eq-eqb (shard_of place) (shard_of place) refl) stands in
           record { cell = (w.stock.stored place).cell; part = part-now (shard_of place) 0 1 shard-low (ap (λ (f : Phase). references_in f (shard_of place)) is) rests }
 
-      -- so has a retired one, which a lane left so
-      retired-now : phase-at z w place ≡ retired → IsResting (spots_at directory z) z (slots_items new) place
-      retired-now is =
-          let one = retired-by-one z w.history place rule.legal is in
-          let f = state-of-number one.0 one.1 in
+      -- a lane that retired the place left it at rest
+      lane-rests : (number : ℕ) → number < z.lanes → has_retired z place (acts_of number w.history) false ≡ true → w.stock.status number place (shard_of place) ≡ Whole
+      lane-rests number low retires_it =
+          let f = state-of-number number low in
           let lane : LaneOf = f.1 in
           let e = f.4 in
           let l : ℕ = (the_lane lane.book).lane in
-          let low : l < z.lanes = subst (λ (n : ℕ). n < z.lanes) e.fits.seat.number_is e.fits.seat.below in
           let mine : has_retired z place (the_lane lane.book).mine false ≡ true
           = ap (λ (xs : List Act). has_retired z place xs false) (own-mine rule lane.table e.fits e.seen e.record_is)
-          ∙ (ap (λ (n : ℕ). has_retired z place (acts_of n w.history) false) f.5 ∙ one.2) in
-          let status : w.stock.status l place (shard_of place) ≡ Whole =
-          sym (e.record_is.deeds place (shard_of place))
-          ∙ (e.fits.seat.retires place inside mine (shard_of place) shard-low ∙ ap (λ (b : Bool). cond b Whole Emptied) (eq-eqb (shard_of place) (shard_of place) refl)) in
+          ∙ (ap (λ (n : ℕ). has_retired z place (acts_of n w.history) false) f.5 ∙ retires_it) in
+          let at : l ≡ number = sym e.fits.seat.number_is ∙ f.5 in
+          ap (λ (n : ℕ). w.stock.status n place (shard_of place)) (sym at)
+          ∙ (sym (e.record_is.deeds place (shard_of place))
+          ∙ (e.fits.seat.retires place inside mine (shard_of place) shard-low ∙ rest-whole))
+
+      -- so has a retired one, which somebody left so
+      retired-now : phase-at z w place ≡ retired → IsResting (spots_at directory z) z (slots_items new) place
+      retired-now is =
+          let one = retired-by-one z w.history place rule.legal is in
+          let status : w.stock.status one.0 place (shard_of place) ≡ Whole = ⊎_elim
+          (λ (lane : one.0 < z.lanes). lane-rests one.0 lane one.2)
+          (λ (guest : z.lanes ≤ one.0). (gone one.0 guest one.1).retires place inside one.2 (shard_of place) shard-low ∙ rest-whole)
+          (cases_lt one.0 z.lanes) in
           record {
             cell = (w.stock.stored place).cell;
-            part = part-now (shard_of place) 0 1 shard-low (ap (λ (f : Phase). references_in f (shard_of place)) is) (shared.whole l place (shard_of place) low inside shard-low status);
+            part = part-now (shard_of place) 0 1 shard-low (ap (λ (f : Phase). references_in f (shard_of place)) is) (shared.whole one.0 place (shard_of place) one.1 inside shard-low status);
           }
 
       -- and so has one of a taken chain
@@ -280,7 +283,8 @@ module _ {T : Type 0} {content : T → List ℕ} {room : T → ℕ} {z : Shape} 
           let state = entry-at states index (omega (arith, within, wide)) in
           let e = each index lane state.0 at state.1 in
           let l : ℕ = (the_lane lane.book).lane in
-          let low : l < z.lanes = subst (λ (n : ℕ). n < z.lanes) e.fits.seat.number_is e.fits.seat.below in
+          let mine_low = e.fits.seat.below in
+          let low : l < callers z = subst (λ (n : ℕ). n < callers z) e.fits.seat.number_is (omega (arith, mine_low)) in
           let rests = (e.fits.stores.chained place among).0 in
           let kept = (lane-last rule lane.table e.fits e.seen e.record_is e.free).chained place among in
           let status : w.stock.status l place (shard_of place) ≡ Whole =

@@ -6,8 +6,8 @@ use Rattle.keybits.specs.Keys.{place_of}
 use Rattle.steplaws.specs.Calls.{Call, Caller, key_in, next_step, AreSteps}
 use Rattle.poolsteps.specs.declared.view.View.{View}
 use Rattle.poolsteps.specs.Views.{the_lane}
-use Rattle.shardpool.specs.Called.{caller_of, Make, Did, Called}
-use Rattle.shardpool.proofs.parts.Doing.{did-more, same-caller}
+use Rattle.seatcalls.specs.Called.{caller_of, Make, Did, Called}
+use Rattle.seatcalls.proofs.parts.Doing.{did-more, same-caller}
 use Rattle.shardpool.specs.Lanes.{Calls}
 
 -- a call in no more looks than these is one of the pool

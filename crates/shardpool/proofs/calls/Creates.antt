@@ -37,12 +37,13 @@ use Rattle.poolsteps.specs.Told.{Sees, references_seen}
 use Rattle.poolsteps.specs.ViewLaws.{references_made}
 use Rattle.poolsteps.proofs.ViewLemmas.{prefix-self, prefix-trans}
 use Rattle.poolsteps.specs.Returned.{LeadsTo}
-use Rattle.shardpool.specs.Bounds.{most_takes, most_create_steps}
-use Rattle.shardpool.specs.Called.{caller_of, Make}
-use Rattle.shardpool.proofs.parts.Doing.{make-one, make-more}
-use Rattle.shardpool.proofs.parts.Calling.{no-links, steps-more}
-use Rattle.shardpool.specs.Taken.{Went, Collects, FollowsOut, NoneHome}
-use Rattle.shardpool.proofs.parts.Going.{acted-goes, none-went, went-goes, went-more}
+use Rattle.steplaws.proofs.HomePlaces.{lane-off}
+use Rattle.seatcalls.specs.Bounds.{most_takes, most_create_steps}
+use Rattle.seatcalls.specs.Called.{caller_of, Make}
+use Rattle.seatcalls.proofs.parts.Doing.{make-one, make-more}
+use Rattle.seatcalls.proofs.parts.Calling.{no-links, steps-more}
+use Rattle.seatcalls.specs.Taken.{Went, Collects, FollowsOut, NoneHome}
+use Rattle.seatcalls.proofs.parts.Going.{acted-goes, none-went, went-goes, went-more}
 use Rattle.shardpool.specs.Tokens.{LaneOf, FillingOf}
 use Rattle.shardpool.specs.Lanes.{IsFilling, Made, SameLane, holds}
 use Rattle.shardpool.specs.Places.{IsBlank}
@@ -407,7 +408,7 @@ module _ (old mid : LaneOf) (sound : IsSound old) (takes : TakesReturned old mid
         few = omega arith;
         chained = unhung;
         free = refl;
-        home = (old.book.seen, prefix-self old.book.seen, prefix-self old.book.seen, unopened-away old sound zero);
+        home = (old.book.seen, prefix-self old.book.seen, prefix-self old.book.seen, λ place. lane-off old.shape old.book.seen old.number place (unopened-away old sound zero place));
       }))
       (λ (isnt : old.pages.opened ≢ 0).
       let told = takes.some unhung (omega arith) in

@@ -33,23 +33,23 @@ use Rattle.poolsteps.specs.declared.view.Status.TheVariants.{Untouched, Emptied}
 use Rattle.poolsteps.specs.Share.{Share}
 use Rattle.poolsteps.specs.Whole.{Whole}
 use Rattle.poolsteps.specs.Told.{IsIdle}
-use Rattle.shardpool.specs.declared.reclaim.At.{At}
-use Rattle.shardpool.specs.declared.reclaim.Reclaimed.{Reclaimed}
-use Rattle.shardpool.specs.declared.reclaim.Reclaimed.TheVariants.{Own, Returned, Retired}
-use Rattle.shardpool.specs.Acted.{Acted}
-use Rattle.shardpool.specs.AtPlace.{MayAct}
+use Rattle.seatcalls.specs.declared.at.At.{At}
+use Rattle.seatcalls.specs.declared.at.Reclaimed.{Reclaimed}
+use Rattle.seatcalls.specs.declared.at.Reclaimed.TheVariants.{Own, Returned, Retired}
+use Rattle.seatcalls.specs.Acted.{Acted}
+use Rattle.seatcalls.specs.AtPlace.{MayAct}
 use Rattle.poolsteps.specs.Layout.{shard_start, spots_at}
 use denote.RawPtr.{Ptr}
 use Rattle.poolsteps.specs.Spot.{Spot as CellSpot}
-use Rattle.shardpool.specs.Called.{Did, IsReclaimed, StandsAt, EndsWithActs, FitsGeneration, MovedNothing, end_acts, end_pushed}
+use Rattle.seatcalls.specs.Called.{Did, IsReclaimed, StandsAt, EndsWithActs, FitsGeneration, MovedNothing, end_acts, end_pushed}
 use Rattle.shardpool.specs.declared.pool.LaneState.{LaneState}
-use Rattle.shardpool.specs.Places.{held_after, has_retired}
+use Rattle.seatcalls.specs.Left.{held_after, has_retired}
 use Rattle.shardpool.specs.LaneStates.{FitsSeat, FitsTops, FitsStores, FitsRights, IsHeld, FitsRows, Fits}
 use Rattle.shardpool.specs.Stores.{Keeps}
 use Rattle.shardpool.specs.Finishes.{IsKeeper, MayKeep}
 use Rattle.shardpool.specs.Lanes.{freed}
-use Rattle.shardpool.proofs.frame.OtherShards.{NoneAbroad, abroad-append, abroad-own, abroad-returned, abroad-retired}
-use Rattle.shardpool.proofs.frame.Frames.{Passes, OnlyAt}
+use Rattle.seatcalls.proofs.parts.OtherShards.{NoneAbroad, abroad-append, abroad-own, abroad-returned, abroad-retired}
+use Rattle.seatcalls.proofs.parts.Frames.{Passes, OnlyAt}
 use Rattle.shardpool.proofs.frame.LaneFrames.{passes-did, passes-still, onlyat-append, onlyat-end}
 use Rattle.shardpool.proofs.frame.KeptPlaces.{seat-passes, last_pushed-same, last_pushed-pushed}
 use Rattle.shardpool.proofs.free.Rights.{rights-set}
@@ -57,7 +57,7 @@ use Rattle.shardpool.proofs.free.Stores.{FitsShelf, IsKeepable, stores-still, st
 use Rattle.shardpool.proofs.frame.BlankPlaces.{reclaimed-with, last-of}
 use Rattle.shardpool.proofs.references.Rows.{rows-pass, held-append}
 use Rattle.shardpool.proofs.references.RowChanges.{end-refs, end-held}
-use Rattle.shardpool.proofs.frame.RetiredPlaces.{Retires, retires-else, reclaimed-unretired, returned-unretired}
+use Rattle.seatcalls.proofs.parts.RetiredPlaces.{Retires, retires-else, reclaimed-unretired, returned-unretired}
 
 -- what the lane keeps beside its rows fits what it has seen and did
 pub record FitsBeside {T : Type 0} (content : T → List ℕ) (room : T → ℕ) (z : Shape) (v : View) (s : LaneState T) : Type 0 where
@@ -469,7 +469,7 @@ pub untouched-held : {T : Type 0} {content : T → List ℕ} {room : T → ℕ} 
     → touched_by p reclaimed place ≡ false
 untouched-held seat held w p None moved = refl
 untouched-held {z = z} {v = v} {place = place} seat held w p (Some reclaimed) moved = ne_eqb place p (λ here.
-    let left : status_of (the_lane v) place (the_lane v).lane ≡ Untouched = ap (λ (q : ℕ). status_of (the_lane v) q (the_lane v).lane) here ∙ moved (the_lane v).lane seat.below in
+    let left : status_of (the_lane v) place (the_lane v).lane ≡ Untouched = ap (λ (q : ℕ). status_of (the_lane v) q (the_lane v).lane) here ∙ moved (the_lane v).lane (let low = seat.below in omega (arith, low)) in
     let bad : Emptied ≡ Untouched = sym held.emptied ∙ left in cc bad)
 
 -- the rows fit where a call made no references, and gave none back

@@ -28,27 +28,27 @@ use Rattle.poolsteps.specs.Views.{the_lane, status_of}
 use Rattle.poolsteps.specs.Told.{IsIdle, MayTouch, references_seen}
 use Rattle.poolsteps.specs.Moved.{Outs, Peeks}
 use Rattle.poolsteps.specs.ViewLaws.{HeldLaw}
-use Rattle.shardpool.specs.Carried.{Carries}
-use Rattle.shardpool.proofs.parts.Moves.{out-moves, carries-out, moves-here, moves-known, carries-peek, peek-unmoved}
-use Rattle.shardpool.specs.declared.reclaim.Reclaimed.{Reclaimed}
-use Rattle.shardpool.specs.Called.{Did as DidSo, Called, MadeOne, IsUnmoved, GetMisses, IsReclaimed, EndsWithActs}
-use Rattle.shardpool.proofs.parts.Doing.{did-more, did-carries}
+use Rattle.seatcalls.specs.Carried.{Carries}
+use Rattle.seatcalls.proofs.parts.Moves.{out-moves, carries-out, moves-here, moves-known, carries-peek, peek-unmoved}
+use Rattle.seatcalls.specs.declared.at.Reclaimed.{Reclaimed}
+use Rattle.seatcalls.specs.Called.{Did as DidSo, Called, MadeOne, IsUnmoved, GetMisses, IsReclaimed, EndsWithActs}
+use Rattle.seatcalls.proofs.parts.Doing.{did-more, did-carries}
 use Rattle.shardpool.specs.HeldKeys.{HeldKey}
 use Rattle.shardpool.specs.declared.pool.LaneState.{LaneState}
-use Rattle.shardpool.specs.Places.{held_after, has_retired}
+use Rattle.seatcalls.specs.Left.{held_after, has_retired}
 use Rattle.shardpool.specs.Tokens.{FillingOf}
 use Rattle.shardpool.specs.Rows.{AreStanding}
 use Rattle.shardpool.specs.LaneStates.{FitsRow, FitsRows, Fits}
 use Rattle.shardpool.specs.Lanes.{Made, Did}
-use Rattle.shardpool.proofs.frame.OtherShards.{abroad-one}
-use Rattle.shardpool.proofs.frame.Frames.{Passes}
+use Rattle.seatcalls.proofs.parts.OtherShards.{abroad-one}
+use Rattle.seatcalls.proofs.parts.Frames.{Passes}
 use Rattle.shardpool.proofs.frame.LaneFrames.{passes-still, passes-carries, passes-more, passes-wider, onlyat-get}
 use Rattle.shardpool.proofs.frame.KeptPlaces.{seat-passes, last_pushed-same, still-with}
 use Rattle.shardpool.proofs.free.Stores.{stores-apart, elsewhere-apart}
 use Rattle.shardpool.proofs.references.Rows.{row-of-refs, held-append, held-made}
 use Rattle.shardpool.proofs.references.RowChanges.{key-now, refs-got, rows-low, rows-count-le, rows-got-first, rows-got-again}
 use Rattle.shardpool.proofs.frame.LaneFacts.{lane_of, made-passes, did-lane}
-use Rattle.shardpool.proofs.frame.RetiredPlaces.{Retires, retired-append, retires-else, retired-phase}
+use Rattle.seatcalls.proofs.parts.RetiredPlaces.{Retires, retired-append, retires-else, retired-phase}
 
 -- ---- one call
 

@@ -16,9 +16,9 @@ use Rattle.poolsteps.specs.declared.view.View.{View}
 use Rattle.poolsteps.specs.Grids.{IsSpot}
 use Rattle.poolsteps.specs.Views.{the_lane, IsOne}
 use Rattle.poolsteps.specs.Told.{references_seen}
-use Rattle.shardpool.specs.Called.{caller_of, Make, Did, IsLawful}
-use Rattle.shardpool.proofs.parts.Doing.{same-caller}
-use Rattle.shardpool.proofs.parts.Going.{none-acted, acted-more}
+use Rattle.seatcalls.specs.Called.{caller_of, Make, Did, IsLawful}
+use Rattle.seatcalls.proofs.parts.Doing.{same-caller}
+use Rattle.seatcalls.proofs.parts.Going.{none-acted, acted-more}
 use Rattle.shardpool.specs.Halted.{CalledWithin}
 use Rattle.shardpool.proofs.parts.Within.{at-end}
 use Rattle.shardpool.specs.declared.pool.LaneState.{LaneState}

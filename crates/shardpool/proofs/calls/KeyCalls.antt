@@ -22,12 +22,12 @@ use Rattle.poolsteps.specs.Grids.{IsSpot}
 use Rattle.poolsteps.specs.Told.{MayTouch, references_seen}
 use Rattle.poolsteps.specs.Moved.{Outs, Peeks}
 use Rattle.poolsteps.specs.ViewLaws.{HeldLaw}
-use Rattle.shardpool.specs.declared.reclaim.Reclaimed.{Reclaimed}
-use Rattle.shardpool.specs.declared.reclaim.Reclaimed.TheVariants.{Own}
-use Rattle.shardpool.specs.declared.reclaim.At.{At}
-use Rattle.shardpool.specs.AtPlace.{IsAt}
-use Rattle.shardpool.specs.Called.{Called, GetHits, GetMisses, IsReclaimed, EndsWithActs}
-use Rattle.shardpool.proofs.parts.Moves.{carries-out, carries-peek}
+use Rattle.seatcalls.specs.declared.at.Reclaimed.{Reclaimed}
+use Rattle.seatcalls.specs.declared.at.Reclaimed.TheVariants.{Own}
+use Rattle.seatcalls.specs.declared.at.At.{At}
+use Rattle.seatcalls.specs.AtPlace.{IsAt}
+use Rattle.seatcalls.specs.Called.{Called, GetHits, GetMisses, IsReclaimed, EndsWithActs}
+use Rattle.seatcalls.proofs.parts.Moves.{carries-out, carries-peek}
 use Rattle.shardpool.specs.Lendings.{Gains}
 use mathlib.Core.Logic.{dite}
 use native.Mathlib.Decide.{ℕ_discrete}

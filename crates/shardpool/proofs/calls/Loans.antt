@@ -33,11 +33,11 @@ use Rattle.poolsteps.specs.Layout.{slot_start, slot_row}
 use Rattle.poolsteps.specs.Told.{Sees, Leaves, MayLeave, references_seen}
 use Rattle.poolsteps.specs.Moved.{stored_of, Backs}
 use Rattle.poolsteps.proofs.SlotLemmas.{start-injective}
-use Rattle.shardpool.specs.declared.reclaim.Reclaimed.{Reclaimed}
-use Rattle.shardpool.specs.declared.reclaim.Reclaimed.TheVariants.{Own, Returned, Retired}
+use Rattle.seatcalls.specs.declared.at.Reclaimed.{Reclaimed}
+use Rattle.seatcalls.specs.declared.at.Reclaimed.TheVariants.{Own, Returned, Retired}
 use Rattle.shardpool.specs.declared.pool.LaneState.{LaneState}
 use Rattle.shardpool.specs.HeldKeys.{HeldKey}
-use Rattle.shardpool.specs.Called.{Called, GetHits, Ends, EndsWithActs, IsReclaimed}
+use Rattle.seatcalls.specs.Called.{Called, GetHits, Ends, EndsWithActs, IsReclaimed}
 use Rattle.shardpool.specs.Stores.{Keeps}
 use Rattle.shardpool.specs.Finishes.{IsKeeper}
 use Rattle.shardpool.specs.Lendings.{LendsHome}
@@ -53,9 +53,9 @@ use Rattle.shardpool.proofs.references.Holdings.{get-holds}
 use Rattle.shardpool.proofs.references.Rows.{either-same}
 use Rattle.shardpool.proofs.references.RowChanges.{rows-stand, rows-got-again}
 use Rattle.shardpool.proofs.references.Standings.{standing-same, stood-else, stood-here}
-use Rattle.shardpool.proofs.parts.Moves.{back-moves, moves-here, carries-back}
-use Rattle.shardpool.proofs.parts.Doing.{did-carries}
-use Rattle.shardpool.proofs.parts.Calling.{release-called, release-acts}
+use Rattle.seatcalls.proofs.parts.Moves.{back-moves, moves-here, carries-back}
+use Rattle.seatcalls.proofs.parts.Doing.{did-carries}
+use Rattle.seatcalls.proofs.parts.Calling.{release-called, release-acts}
 use Rattle.shardpool.proofs.calls.Ends.{keeper}
 use Rattle.shardpool.proofs.calls.Gets.{Gained, seen-within, hit-again, hit-still, hit-key}
 use Rattle.shardpool.proofs.calls.KeyCalls.{Ready, ready-row}

@@ -1,5 +1,5 @@
 -- What a lane keeps fits at first, when it has seen and done nothing; and how lanes are made and endowed, one after another.
-use Rattle.std.proofs.Common.{◌≡◌, ⊎_elim, ℕ, ◌+◌, ◌<◌, ◌≤◌, Bool, true, false, cond, List, [], ◌∷◌, ◌++◌, length, replicate, Option, Some, None, refl, ap, sym, ◌∙◌, subst, arith, eq-eqb, slice_get, append_assoc, append-nil}
+use Rattle.std.proofs.Common.{◌≡◌, ⊎_elim, ℕ, suc, ◌+◌, ◌<◌, ◌≤◌, Bool, true, false, cond, List, [], ◌∷◌, ◌++◌, length, replicate, Option, Some, None, refl, ap, sym, ◌∙◌, subst, arith, eq-eqb, slice_get, append_assoc, append-nil}
 use Rattle.std.specs.List.{Contains}
 use Rattle.std.proofs.lemmas.List.{length_push, length-replicate, get_or-replicate}
 use Rattle.std.proofs.lemmas.Bool.{cond_both}
@@ -10,7 +10,7 @@ use denote.RawPtr.{Ptr}
 use Rattle.std.proofs.lemmas.List.Folds.{sum_by-replicate}
 use Rattle.keybits.specs.declared.shape.Shape.{Shape}
 use Rattle.keybits.specs.Places.{shard_of}
-use Rattle.keybits.specs.Shapes.{IsShape, shard_places, index_of}
+use Rattle.keybits.specs.Shapes.{callers, IsShape, shard_places, index_of}
 use Rattle.keybits.proofs.ShapeLemmas.{index_of-lt}
 use Rattle.poolsteps.specs.Objects.{ObjectsOf}
 use Rattle.poolsteps.specs.declared.layout.TheConstants.{SHARDS_APART}
@@ -32,7 +32,7 @@ use Rattle.poolsteps.specs.Share.{Share}
 use Rattle.poolsteps.proofs.ViewLemmas.{entry-of}
 use Rattle.poolsteps.proofs.Owning.{owners-none}
 use Rattle.shardpool.specs.Tokens.{PoolOf, LaneOf}
-use Rattle.shardpool.specs.Opened.{first_book, IsFirstLane, AreFirstLanes, IsFirstState, AreFirstParts}
+use Rattle.shardpool.specs.Opened.{first_book, IsFirstLane, AreFirstLanes, AreFurtherHands, IsFirstState, AreFirstParts}
 use Rattle.shardpool.specs.Rows.{AreStanding}
 use Rattle.shardpool.specs.Places.{IsBlank}
 use Rattle.shardpool.specs.LaneStates.{IsFirst, FitsSeat, FitsTops, FitsRow, FitsRows, FitsStores, FitsRights, Fits}
@@ -219,18 +219,32 @@ pub all-of : {A : Type 0} → (all yielded more : List A) → yielded ++ more �
 all-of {A} all yielded more split none = ap length (sym (append-nil yielded) ∙ (ap (λ (list : List A). yielded ++ list) (sym none) ∙ split))
 
 module _ {T : Type 0} (grid : Grid T) where
-  -- of these hands the next is that of the lane of the next number
-  pub next-hand : (yielded more rest : List (Seat (Option (Share T)) View)) (hand : Seat (Option (Share T)) View)
-      → AreFirstHands grid (yielded ++ more) → more ≡ hand ∷ rest → (length yielded < grid.shape.lanes) × IsFirstHand grid (length yielded) hand
-  next-hand yielded more rest hand are is =
-      let at = next-of (yielded ++ more) yielded more rest hand refl is in
-      let below = slice_get_within (yielded ++ more) (length yielded) hand at in
-      let all = are.count in (omega (arith, below, all), are.each (length yielded) hand at)
+  -- all hands are those from the first on
+  pub first-hands : (hands : List (Seat (Option (Share T)) View)) → AreFirstHands grid hands → AreFurtherHands grid 0 hands
+  first-hands hands are = record {
+    count = let count = are.count in omega (arith, count);
+    each = λ index hand at. subst (λ (n : ℕ). IsFirstHand grid n hand) (let same : index ≡ 0 + index = omega arith in same) (are.each index hand at);
+  }
+
+  -- of these hands the first is that of the next number
+  pub next-hand : (number : ℕ) (hands rest : List (Seat (Option (Share T)) View)) (hand : Seat (Option (Share T)) View)
+      → AreFurtherHands grid number hands → hands ≡ hand ∷ rest → (number < callers grid.shape) × IsFirstHand grid number hand
+  next-hand number hands rest hand are is =
+      let long = ap length is in
+      let all = are.count in (
+        omega (arith, long, all),
+        subst (λ (n : ℕ). IsFirstHand grid n hand) (let same : number + 0 ≡ number = omega arith in same)
+            (are.each 0 hand (ap (λ (l : List (Seat (Option (Share T)) View)). slice_get l 0) is)),
+      )
 
   -- and then the others are left
-  pub hands-left : (yielded more rest : List (Seat (Option (Share T)) View)) (hand : Seat (Option (Share T)) View)
-      → AreFirstHands grid (yielded ++ more) → more ≡ hand ∷ rest → AreFirstHands grid ((yielded ++ hand ∷ []) ++ rest)
-  hands-left yielded more rest hand are is = subst (AreFirstHands grid) (sym (left-of (yielded ++ more) yielded more rest hand refl is)) are
+  pub hands-left : (number : ℕ) (hands rest : List (Seat (Option (Share T)) View)) (hand : Seat (Option (Share T)) View)
+      → AreFurtherHands grid number hands → hands ≡ hand ∷ rest → AreFurtherHands grid (number + 1) rest
+  hands-left number hands rest hand are is = record {
+    count = let long = ap length is in let all = are.count in omega (arith, long, all);
+    each = λ index next at. subst (λ (n : ℕ). IsFirstHand grid n next) (let same : number + suc index ≡ number + 1 + index = omega arith in same)
+        (are.each (suc index) next (ap (λ (l : List (Seat (Option (Share T)) View)). slice_get l (suc index)) is ∙ at));
+  }
 
   -- the pool of the table
   abbrev pub pool_of : PoolOf
@@ -248,11 +262,6 @@ module _ {T : Type 0} {G : Ghosts T} (grid : Grid T) where
     subst (λ (h : Seat (Option (Share T)) View). IsFirstHand grid count h) (sym is) first,
     subst (λ (of : Shape × (Ptr × ℕ)). IsFirstState of.0 of.1.0 of.1.1 part.state) (λ i. (sym shape i, (sym at i, same i))) state,
   )
-
-  -- where no hand is left, there is a part for each lane
-  pub all-parts : (yielded more : List (Seat (Option (Share T)) View)) (parts : List (Unendowed T G)) → AreFirstHands grid (yielded ++ more) → more ≡ []
-      → AreNumbered IsFirstPart (length yielded) parts → AreFirstParts grid parts
-  all-parts yielded more parts are none made = record { count = made.stand ∙ (all-of (yielded ++ more) yielded more refl none ∙ are.count); each = made.each }
 
   -- of these parts the next is that of the lane of the next number
   pub next-part : (parts yielded more rest : List (Unendowed T G)) (part : Unendowed T G) → AreFirstParts grid parts → yielded ++ more ≡ parts → more ≡ part ∷ rest

@@ -19,7 +19,7 @@ use Rattle.seqpool.proofs.Ranks.{same-key, current-key}
 use Rattle.poolsteps.specs.declared.view.Status.TheVariants.{Emptied}
 use Rattle.poolsteps.specs.Share.{Share}
 use Rattle.poolsteps.proofs.shares.HeldContents.{held-current}
-use Rattle.keybits.specs.Shapes.{is_place}
+use Rattle.keybits.specs.Shapes.{callers, is_place}
 use Rattle.poolsteps.specs.declared.grid.Spot.{Spot}
 use Rattle.poolsteps.specs.Grids.{IsSpot}
 use Rattle.poolsteps.specs.Layout.{slot_start}
@@ -27,18 +27,18 @@ use Rattle.poolsteps.specs.declared.view.View.{View}
 use Rattle.poolsteps.specs.Views.{the_lane, status_of, known_of}
 use Rattle.poolsteps.specs.Told.{IsIdle, MayPublish, references_seen}
 use Rattle.poolsteps.specs.Moved.{stored_of}
-use Rattle.shardpool.specs.Called.{Did as DidSo, MadeOne}
+use Rattle.seatcalls.specs.Called.{Did as DidSo, MadeOne}
 use Rattle.shardpool.specs.HeldKeys.{HeldKey}
 use Rattle.shardpool.specs.declared.pool.LaneState.{LaneState}
-use Rattle.shardpool.specs.Places.{held_after, has_retired}
+use Rattle.seatcalls.specs.Left.{held_after, has_retired}
 use Rattle.shardpool.specs.Tokens.{LaneOf, FillingOf}
 use Rattle.shardpool.specs.Rows.{AreStanding}
 use Rattle.shardpool.proofs.references.Standings.{standing-set, standing-same}
 use Rattle.shardpool.specs.LaneStates.{FitsSeat, FitsTops, FitsStores, FitsRights, IsHeld, FitsRow, FitsRows, Fits}
 use Rattle.shardpool.specs.Lanes.{Made, Did}
-use Rattle.shardpool.proofs.frame.OtherShards.{abroad-one}
-use Rattle.shardpool.proofs.frame.Frames.{Passes, OnlyAt}
-use Rattle.shardpool.proofs.parts.Going.{all-acts}
+use Rattle.seatcalls.proofs.parts.OtherShards.{abroad-one}
+use Rattle.seatcalls.proofs.parts.Frames.{Passes, OnlyAt}
+use Rattle.seatcalls.proofs.parts.Going.{all-acts}
 use Rattle.shardpool.proofs.frame.LaneFrames.{passes-did, passes-refs, away-elsewhere, onlyat-publish}
 use Rattle.shardpool.proofs.frame.KeptPlaces.{seat-passes, last_pushed-same}
 use Rattle.shardpool.proofs.free.Stores.{IsApart, filling-apart, stores-apart}
@@ -46,7 +46,7 @@ use Rattle.shardpool.proofs.frame.BlankPlaces.{last-of}
 use Rattle.shardpool.proofs.references.Rows.{either-same, held-append, row-none, rows-set}
 use Rattle.shardpool.proofs.references.RowChanges.{rows-low, rows-published}
 use Rattle.shardpool.proofs.frame.LaneFacts.{lane_of, made-passes, did-lane}
-use Rattle.shardpool.proofs.frame.RetiredPlaces.{retires-else}
+use Rattle.seatcalls.proofs.parts.RetiredPlaces.{retires-else}
 
 -- an act stands behind those before it
 at-seam : (xs ys : List Act) (act : Act) → At (xs ++ act ∷ ys) (length xs) act
@@ -221,7 +221,7 @@ module _ {S T : Type 0} {content : T → List ℕ} {room : T → ℕ} {z : Shape
       (standing-same same_rows refl fits.standing)
 
   -- and where it was with one, under which this share stands
-  pub published-held-with : (share : Share T) → share.spot ≡ record { directory = s.objects.directory; index = slot_start z place } → with_ref ≡ true → share.number ≡ s.number → share.of ≡ z.lanes → content share.object ≡ bytes
+  pub published-held-with : (share : Share T) → share.spot ≡ record { directory = s.objects.directory; index = slot_start z place } → with_ref ≡ true → share.number ≡ s.number → share.of ≡ callers z → content share.object ≡ bytes
       → status_of (the_lane b.0) place s.number ≡ Emptied → known_of (the_lane b.0) place ≡ stored_of content room share
       → t.rows.items ≡ slice_set s.rows.items (slot_start z place) (record { generation = generation_of filling.key; count = 1; share = Some share })
       → t.references ≡ s.references + 1 → Fits content room z b.0 t

@@ -14,17 +14,17 @@ use Rattle.poolsteps.specs.declared.view.View.{View}
 use Rattle.poolsteps.specs.Views.{the_lane}
 use Rattle.poolsteps.specs.Told.{IsIdle}
 use Rattle.poolsteps.specs.ViewLaws.{references_made}
-use Rattle.shardpool.specs.declared.reclaim.Reclaimed.{Reclaimed}
-use Rattle.shardpool.specs.Called.{Did as DidSo, IsReclaimed, EndsWithActs, MovedNothing, end_acts}
+use Rattle.seatcalls.specs.declared.at.Reclaimed.{Reclaimed}
+use Rattle.seatcalls.specs.Called.{Did as DidSo, IsReclaimed, EndsWithActs, MovedNothing, end_acts}
 use Rattle.shardpool.specs.declared.pool.Places.{Places}
 use Rattle.shardpool.specs.declared.pool.LaneState.{LaneState}
-use Rattle.shardpool.specs.Places.{held_after, has_retired}
+use Rattle.seatcalls.specs.Left.{held_after, has_retired}
 use Rattle.shardpool.specs.Tokens.{FillingOf}
 use Rattle.shardpool.specs.Stores.{Keeps}
 use Rattle.shardpool.specs.LaneStates.{FitsRows, Fits}
 use Rattle.shardpool.specs.Lanes.{Made, Did, freed}
-use Rattle.shardpool.proofs.frame.OtherShards.{NoneAbroad}
-use Rattle.shardpool.proofs.frame.Frames.{OnlyAt}
+use Rattle.seatcalls.proofs.parts.OtherShards.{NoneAbroad}
+use Rattle.seatcalls.proofs.parts.Frames.{OnlyAt}
 use Rattle.shardpool.proofs.frame.LaneFrames.{onlyat-clear, onlyat-get}
 use Rattle.shardpool.proofs.calls.Ends.{Ended, ended, rows-ended, some-lane}
 use Rattle.shardpool.proofs.references.Standings.{standing-same}

@@ -30,18 +30,18 @@ use Rattle.poolsteps.specs.Grids.{IsSpot}
 use Rattle.poolsteps.specs.Views.{the_lane, status_of, pushed_in}
 use Rattle.poolsteps.specs.Told.{IsIdle, references_seen}
 use Rattle.poolsteps.specs.Moved.{Backs, Peeks}
-use Rattle.shardpool.proofs.parts.Moves.{back-moves, carries-back, moves-here, carries-peek, peek-unmoved}
-use Rattle.shardpool.specs.declared.reclaim.At.{At}
-use Rattle.shardpool.specs.AtPlace.{IsAt}
-use Rattle.shardpool.specs.declared.reclaim.Reclaimed.{Reclaimed}
-use Rattle.shardpool.specs.declared.reclaim.Reclaimed.TheVariants.{Own}
-use Rattle.shardpool.specs.Called.{Did as DidSo, IsReclaimed, EndsWithActs, end_acts}
-use Rattle.shardpool.proofs.parts.Doing.{did-carries, did-most}
-use Rattle.shardpool.proofs.parts.Ending.{did-nothing}
+use Rattle.seatcalls.proofs.parts.Moves.{back-moves, carries-back, moves-here, carries-peek, peek-unmoved}
+use Rattle.seatcalls.specs.declared.at.At.{At}
+use Rattle.seatcalls.specs.AtPlace.{IsAt}
+use Rattle.seatcalls.specs.declared.at.Reclaimed.{Reclaimed}
+use Rattle.seatcalls.specs.declared.at.Reclaimed.TheVariants.{Own}
+use Rattle.seatcalls.specs.Called.{Did as DidSo, IsReclaimed, EndsWithActs, end_acts}
+use Rattle.seatcalls.proofs.parts.Doing.{did-carries, did-most}
+use Rattle.seatcalls.proofs.parts.Ending.{did-nothing}
 use Rattle.shardpool.specs.HeldKeys.{HeldKey}
 use Rattle.shardpool.specs.declared.pool.Places.{Places}
 use Rattle.shardpool.specs.declared.pool.LaneState.{LaneState}
-use Rattle.shardpool.specs.Places.{held_after}
+use Rattle.seatcalls.specs.Left.{held_after}
 use Rattle.shardpool.specs.Tokens.{PoolOf, LaneOf, FillingOf}
 use Rattle.shardpool.specs.Stores.{Keeps}
 use Rattle.shardpool.specs.Lendings.{LendsHome}
@@ -49,7 +49,7 @@ use Rattle.shardpool.specs.Rows.{AreStanding}
 use Rattle.shardpool.specs.LaneStates.{FitsSeat, FitsTops, FitsStores, IsHeld, FitsRow, FitsRows, Fits, FitsRights}
 use Rattle.shardpool.proofs.references.Standings.{standing-set, standing-same}
 use Rattle.shardpool.specs.Lanes.{Made, Did, freed, holds}
-use Rattle.shardpool.proofs.frame.Frames.{Passes, OnlyAt}
+use Rattle.seatcalls.proofs.parts.Frames.{Passes, OnlyAt}
 use Rattle.shardpool.proofs.frame.LaneFrames.{passes-did, passes-still, passes-more, passes-wider, passes-refs, away-elsewhere, onlyat-none, onlyat-append, onlyat-end, onlyat-release}
 use Rattle.shardpool.proofs.frame.KeptPlaces.{seat-passes, last_pushed-same}
 use Rattle.shardpool.proofs.free.Stores.{elsewhere-apart, stores-apart, stands-here}
@@ -59,7 +59,7 @@ use Rattle.shardpool.proofs.calls.Ends.{FitsBeside, Ended, ended-beside, beside-
 use Rattle.shardpool.proofs.calls.Publishes.{empty-row}
 use Rattle.shardpool.proofs.frame.SeenHistories.{same-shape}
 use Rattle.shardpool.proofs.frame.LaneFacts.{lane_of, made-passes, did-lane}
-use Rattle.shardpool.proofs.frame.RetiredPlaces.{Retires, retires-else, retired-phase}
+use Rattle.seatcalls.proofs.parts.RetiredPlaces.{Retires, retires-else, retired-phase}
 
 -- a lane that did nothing
 seat-nothing : {S : Type 0} {z : Shape} {a : Me S View} {n : ℕ} (place looks : ℕ) → FitsSeat z a.0 n → DidSo z place [] 0 looks a a

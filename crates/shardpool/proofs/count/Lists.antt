@@ -1,7 +1,7 @@
 -- The free places of a shard: its own list, its taken chain, and the places on its stacks.
 use Rattle.std.proofs.Common.{◌≡◌, ◌≢◌, ⊎_elim, ℕ, zero, suc, ◌+◌, ◌<◌, ◌≤◌, true, Bool, cond, eqb, List, [], ◌∷◌, ◌++◌, map, Option, Some, None, ap, sym, ◌∙◌, subst, arith, append_assoc, append-nil, eq-eqb, ne_eqb}
 use Rattle.std.specs.List.{Contains}
-use Rattle.std.specs.Prelude.{slice_index_or, nat_lt}
+use Rattle.std.specs.Prelude.{slice_index_or, nat_lt, min}
 use Rattle.std.proofs.lemmas.Bool.{and_from, lt-ltb}
 use Rattle.std.proofs.lemmas.List.{map-append}
 use Rattle.std.proofs.lemmas.List.Elements.{Contains-append_left, Contains-append_right, Contains-push, Contains-append_cases}
@@ -22,7 +22,7 @@ use Rattle.freelists.specs.Queues.{FreePlaces}
 use Rattle.poolsteps.specs.Layout.{index_in, words_in}
 use Rattle.poolsteps.specs.Returned.{rest_of}
 use Rattle.shardpool.specs.LaneStates.{IsFirst}
-use Rattle.shardpool.specs.Marks.{IsRow, Blanks, IsThread, AreThreads, stacked, AreFreePlaces}
+use Rattle.shardpool.specs.Marks.{IsRow, Blanks, IsThread, AreThreads, stacked, pages_given, AreGiven, AreFreePlaces}
 use Rattle.shardpool.proofs.count.Marks.{blanks-none, AreBlanked, blanks-then, blanks-words, read-word}
 
 -- ---- the own list
@@ -84,14 +84,24 @@ threads-stay z places old new shard threads same h lane below apart =
     subst (λ (f : ℕ → ℕ → ℕ). IsThread z new shard (f shard lane) (threads lane)) (sym same.stack)
     (thread-stays z places old new shard ((words_in z old).stack shard lane) (threads lane) same (h lane below apart))
 
--- and so do the free places of a shard
-pub free-stays : (z : Shape) (places old new : List ℕ) (shard : ℕ) (free : FreePlaces) (chain : List ℕ) (threads : ℕ → List ℕ) → AreBlanked places (words_in z old) (words_in z new)
-    → AreFreePlaces z old shard free chain threads → AreFreePlaces z new shard free chain threads
-free-stays z places old new shard free chain threads same h = record {
+-- and so do the places that guests returned
+pub given-stay : (z : Shape) (places old new : List ℕ) (shard opened : ℕ) (given : List ℕ) → AreBlanked places (words_in z old) (words_in z new)
+    → AreGiven z old shard opened given → AreGiven z new shard opened given
+given-stay z places old new shard opened given same h = record {
+  list = subst (λ (f : ℕ → ℕ → ℕ). given ≡ pages_given z shard (f shard) (min opened z.pages)) (sym same.bits) h.list;
+  inside = h.inside;
+}
+
+-- and the free places of a shard
+pub free-stays : (z : Shape) (places old new : List ℕ) (shard opened : ℕ) (free : FreePlaces) (chain : List ℕ) (threads : ℕ → List ℕ) (given : List ℕ)
+    → AreBlanked places (words_in z old) (words_in z new)
+    → AreFreePlaces z old shard opened free chain threads given → AreFreePlaces z new shard opened free chain threads given
+free-stays z places old new shard opened free chain threads given same h = record {
   listed = h.listed;
   first = h.first;
   chained = (h.chained.0, thread-stays z places old new shard h.chained.0 chain same h.chained.1);
   returned = threads-stay z places old new shard threads same h.returned;
+  given_are = given-stay z places old new shard opened given same h.given_are;
 }
 
 -- a thread by the link of its first place
@@ -179,8 +189,8 @@ chain-some : (first : Option Place) (chain : List ℕ) (place : Place) → first
 chain-some None chain place is h = absurd (cc is)
 chain-some (Some p) chain place is h = h ∙ ap (λ (q : Place). number_of q ∷ rest_of chain) (cc is)
 
-module _ (z : Shape) (ok : IsShape z) (old : Slots ℕ) (row : IsRow z old) (shard : ℕ) (free : FreePlaces) (chain : List ℕ) (threads : ℕ → List ℕ)
-    (h : AreFreePlaces z (slots_items old) shard free chain threads) where
+module _ (z : Shape) (ok : IsShape z) (old : Slots ℕ) (row : IsRow z old) (shard opened : ℕ) (free : FreePlaces) (chain : List ℕ) (threads : ℕ → List ℕ) (given : List ℕ)
+    (h : AreFreePlaces z (slots_items old) shard opened free chain threads given) where
   -- the chain hangs by the link of its first place
   pub chain-hangs : (place : Place) → free.chain ≡ Some place → IsThread z (slots_items old) shard (link_to (number_of place)) chain
   chain-hangs place is =
@@ -201,6 +211,15 @@ module _ (z : Shape) (ok : IsShape z) (old : Slots ℕ) (row : IsRow z old) (sha
   pub stacks-stand : (now : Slots ℕ) → Blanks z chain old now → AreThreads z (slots_items now) shard threads
   stacks-stand now marks = threads-stay z chain (slots_items old) (slots_items now) shard threads
       (blanks-words z ok chain old now row (λ place some. (h.chained.1.inside place some).0) marks) h.returned
+
+  -- and after these the places that guests returned
+  pub given-stand : (mid now : Slots ℕ) → Blanks z chain old mid → Blanks z (stacked shard threads z.lanes) mid now → AreGiven z (slots_items now) shard opened given
+  given-stand mid now marks more =
+      let first = blanks-words z ok chain old mid row (λ place some. (h.chained.1.inside place some).0) marks in
+      let then = blanks-words z ok (stacked shard threads z.lanes) mid now marks.row
+      (λ place some. (stacked-inside z (slots_items old) shard z.lanes threads h.returned (omega arith) place some).0) more in
+      given-stay z (stacked shard threads z.lanes) (slots_items mid) (slots_items now) shard opened given then
+      (given-stay z chain (slots_items old) (slots_items mid) shard opened given first h.given_are)
 
 -- the word of the next stack leads through its thread, after the stacks before it were marked
 pub next-thread : (z : Shape) → IsShape z → (old : Slots ℕ) → IsRow z old → (shard : ℕ) → shard < z.lanes → (threads : ℕ → List ℕ) → AreThreads z (slots_items old) shard threads

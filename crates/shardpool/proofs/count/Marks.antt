@@ -1,5 +1,5 @@
 -- Marks of places among a pool's words.
-use Rattle.std.proofs.Common.{◌≡◌, ◌≢◌, ℕ, ◌<◌, true, List, [], ◌∷◌, ◌++◌, length, slice_set, false, refl, ap, sym, ◌∙◌, subst, arith, length-set}
+use Rattle.std.proofs.Common.{◌≡◌, ◌≢◌, ℕ, ◌<◌, Bool, true, cond, List, [], ◌∷◌, ◌++◌, length, slice_set, false, refl, ap, sym, ◌∙◌, subst, arith, length-set}
 use Rattle.std.specs.Prelude.{slice_index_or}
 use Rattle.std.proofs.lemmas.List.{get_or_read}
 use mathlib.Core.Logic.{dite}
@@ -14,8 +14,8 @@ use Rattle.keybits.specs.Counts.{times}
 use Rattle.keybits.proofs.CountLemmas.{times-head, one_at, none_at}
 use Rattle.steplaws.specs.Facts.{Words, value_of, with_value, put_at}
 use Rattle.steplaws.proofs.Updates.{at-here, at-else}
-use Rattle.poolsteps.specs.Layout.{word_count, index_in, has_word, words_in}
-use Rattle.poolsteps.proofs.LayoutLemmas.{set-word, index-below, value-is}
+use Rattle.poolsteps.specs.Layout.{word_count, index_in, has_word, has_row, bits_index, words_in}
+use Rattle.poolsteps.proofs.LayoutLemmas.{set-word, index-below, bits-below, value-is}
 use Rattle.shardpool.specs.Marks.{IsRow, blanked, Blanks}
 
 -- ---- rows
@@ -46,6 +46,7 @@ blanks-then z xs ys a b c h k = record {
 pub record AreBlanked (places : List ℕ) (old new : Words) : Type 0 where
   pub link : new.link ≡ old.link
   pub stack : new.stack ≡ old.stack
+  pub bits : new.bits ≡ old.bits
   pub gone : (place : ℕ) → 0 < times place places → new.life place ≡ 0
   pub kept : (place : ℕ) → times place places ≡ 0 → new.life place ≡ old.life place
 
@@ -55,7 +56,7 @@ one-blanked z ok words count place inside = set-word z ok words count (Life plac
 
 pub are-blanked : (z : Shape) → IsShape z → (places words : List ℕ) → length words ≡ word_count z → ((place : ℕ) → 0 < times place places → is_place z place ≡ true)
     → AreBlanked places (words_in z words) (words_in z (blanked z places words))
-are-blanked z ok [] words count inside = record { link = refl; stack = refl; gone = λ place some. absurd (omega arith); kept = λ place none. refl }
+are-blanked z ok [] words count inside = record { link = refl; stack = refl; bits = refl; gone = λ place some. absurd (omega arith); kept = λ place none. refl }
 are-blanked z ok (x ∷ more) words count inside =
     let here = inside x (times-head x more) in
     let next : List ℕ = slice_set words (index_in z (Life x)) 0 in
@@ -66,6 +67,7 @@ are-blanked z ok (x ∷ more) words count inside =
     record {
       link = rest.link ∙ ap (λ (w : Words). w.link) step;
       stack = rest.stack ∙ ap (λ (w : Words). w.stack) step;
+      bits = rest.bits ∙ ap (λ (w : Words). w.bits) step;
       gone = λ place some. dite (ℕ_discrete (times place more) 0)
           (λ none. rest.kept place none ∙ (stepped place ∙ at-here old x 0 place (is-head place some none)))
           (λ again. rest.gone place (omega arith));
@@ -94,6 +96,15 @@ read-word z ok words row word has i v at read =
     let below = index-below z ok word has in
     let long = row-length z words row in
     get_or_read (slots_items words) i v (omega arith) read 0 ∙ (ap (λ (n : ℕ). slice_index_or (slots_items words) n 0) at ∙ sym (value-is z (slots_items words) word has))
+
+-- and so is the word of a row of bits
+pub read-bits : (z : Shape) (words : Slots ℕ) → IsRow z words → (shard row : ℕ) → has_row z shard row ≡ true → (i v : ℕ) → i ≡ bits_index z shard row
+    → v ≡ slice_index_or (slots_items words) i v → v ≡ (words_in z (slots_items words)).bits shard row
+read-bits z words row_is shard row has i v at read =
+    let below = bits-below z shard row has in
+    let long = row-length z words row_is in
+    get_or_read (slots_items words) i v (omega arith) read 0 ∙ (ap (λ (n : ℕ). slice_index_or (slots_items words) n 0) at
+    ∙ sym (ap (λ (b : Bool). cond b (slice_index_or (slots_items words) (bits_index z shard row) 0) 0) has))
 
 -- a place of a row that is within it is full
 pub is-full : (z : Shape) (words : Slots ℕ) → IsRow z words → (i : ℕ) → i < word_count z → (i < slots_len words) × (slice_index_or (slots_filled words) i false ≡ true)

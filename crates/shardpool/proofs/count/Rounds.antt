@@ -39,7 +39,7 @@ use Rattle.shardpool.proofs.count.Lists.{free-stays, among-number, stacked-insid
 use Rattle.shardpool.proofs.count.Counts.{many-counted, counted-append, get-front, get-back}
 use Rattle.shardpool.specs.Remains.{HasCells, IsDrained, DrainsShard}
 use Rattle.shardpool.proofs.at_close.DroppedCells.{SameSlots, cell-stays, drained-stays}
-use Rattle.shardpool.proofs.count.Shards.{threads_of, free-stand, word-some, stacked-home, home-stacked, part-is}
+use Rattle.shardpool.proofs.count.Shards.{threads_of, given_of, free-stand, word-some, stacked-home, given-at-home, home-returned, times-free, part-is}
 use Rattle.shardpool.proofs.at_close.ReturnedShares.{some-same}
 
 -- what holds of all entries holds of the one at an index
@@ -214,6 +214,31 @@ module _ {T : Type 0} (z : Shape) (ok : IsShape z) (history : List Act) (lanes :
   abbrev pub threads : ℕ → List ℕ
   threads = threads_of z history lanes states (slots_items old) last lane state own
 
+  abbrev pub given : List ℕ
+  given = given_of z history lanes states (slots_items old) last lane state own
+
+  -- how often a place was returned, and stands among the free ones
+  times-returned : (place : ℕ) → times place (returned_places z lane.number chain threads given)
+      ≡ times place chain + times place (stacked lane.number threads z.lanes) + times place given
+  times-returned place =
+      let front = times-append place chain (stacked lane.number threads z.lanes) in
+      let mid = times-append place (chain ++ stacked lane.number threads z.lanes) given in
+      omega (arith, front, mid)
+
+  times-all : (place : ℕ) → times place (free_places z lane.number state.free chain threads given)
+      ≡ times place chain + times place (stacked lane.number threads z.lanes) + times place given + times place (map number_of state.free.own)
+  times-all = times-free z history lanes states (slots_items old) last lane state own
+
+  -- a place that was returned is on the chain, or home
+  returned-either : (place : ℕ) → 0 < times place (returned_places z lane.number chain threads given) → (0 < times place chain) ⊎ ((pool_after z history place).phase ≡ home)
+  returned-either place some =
+      let whole = times-returned place in
+      dite (ℕ_discrete (times place chain) 0)
+      (λ (unchained : times place chain ≡ 0). dite (ℕ_discrete (times place given) 0)
+      (λ (ungiven : times place given ≡ 0). inr (stacked-home z history lanes states (slots_items old) last lane state own place (omega (arith, some, whole, unchained, ungiven))))
+      (λ (by_guest : times place given ≢ 0). inr (given-at-home z history lanes states (slots_items old) last lane state own place (omega (arith, by_guest)))))
+      (λ (chained : times place chain ≢ 0). inl (omega (arith, chained)))
+
   -- it is one of the shape's
   pub state-low : state.number < z.lanes
   state-low = subst (λ n. n < z.lanes) (sym own.number_is) own.below
@@ -226,24 +251,33 @@ module _ {T : Type 0} (z : Shape) (ok : IsShape z) (history : List Act) (lanes :
     so_far_blanked = blanks-words z ok h.marked old now row h.inside h.blanks
 
     -- its free places stand as before
-    stand-own : AreFreePlaces z (slots_items now) lane.number state.free chain threads
-    stand-own = free-stays z h.marked (slots_items old) (slots_items now) lane.number state.free chain threads so_far_blanked
+    stand-own : AreFreePlaces z (slots_items now) lane.number state.pages.opened state.free chain threads given
+    stand-own = free-stays z h.marked (slots_items old) (slots_items now) lane.number state.pages.opened state.free chain threads given so_far_blanked
         (free-stand z history lanes states (slots_items old) last lane state own)
 
-    pub stand-now : AreFreePlaces z (slots_items now) state.number state.free chain threads
-    stand-now = subst (λ n. AreFreePlaces z (slots_items now) n state.free chain threads) (sym own.number_is) stand-own
+    pub stand-now : AreFreePlaces z (slots_items now) state.number state.pages.opened state.free chain threads given
+    stand-now = subst (λ n. AreFreePlaces z (slots_items now) n state.pages.opened state.free chain threads given) (sym own.number_is) stand-own
+
+    -- what was returned is of its shard
+    of-shard : (place : ℕ) → 0 < times place (returned_places z lane.number chain threads given) → (is_place z place ≡ true) × (shard_of place ≡ lane.number)
+    of-shard place some =
+        let whole = times-returned place in
+        dite (ℕ_discrete (times place chain) 0)
+        (λ (unchained : times place chain ≡ 0). dite (ℕ_discrete (times place given) 0)
+        (λ (ungiven : times place given ≡ 0).
+        stacked-inside z (slots_items now) lane.number z.lanes threads stand-own.returned (omega arith) place (omega (arith, some, whole, unchained, ungiven)))
+        (λ (by_guest : times place given ≢ 0). stand-own.given_are.inside place (omega (arith, by_guest))))
+        (λ (chained : times place chain ≢ 0). stand-own.chained.1.inside place (omega (arith, chained)))
 
     -- all of them are places of its shard
-    free-own : (place : ℕ) → 0 < times place (free_places z lane.number state.free chain threads) → (is_place z place ≡ true) × (shard_of place ≡ lane.number)
+    free-own : (place : ℕ) → 0 < times place (free_places z lane.number state.free chain threads given) → (is_place z place ≡ true) × (shard_of place ≡ lane.number)
     free-own place some =
-        let front = times-append place chain (stacked lane.number threads z.lanes) in
-        let whole = times-append place (chain ++ stacked lane.number threads z.lanes) (map number_of state.free.own) in
+        let whole = times-all place in
         dite (ℕ_discrete (times place (map number_of state.free.own)) 0)
-        (λ unlisted. dite (ℕ_discrete (times place chain) 0)
-        (λ unchained. stacked-inside z (slots_items now) lane.number z.lanes threads stand-own.returned (omega arith) place (omega arith))
-        (λ chained. stand-own.chained.1.inside place (omega arith)))
-        (λ listed.
-        let on = among-number state.free.own place (omega arith) in
+        (λ (unlisted : times place (map number_of state.free.own) ≡ 0).
+        let all = times-returned place in of-shard place (omega (arith, some, whole, all, unlisted)))
+        (λ (listed : times place (map number_of state.free.own) ≢ 0).
+        let on = among-number state.free.own place (omega (arith, listed)) in
         let kept = own.listed on.at (subst (λ (f : FreePlaces). Contains f.own on.at) own.free_is on.within) in
         (subst (λ n. is_place z n ≡ true) on.is kept.inside, subst (λ n. shard_of n ≡ lane.number) on.is kept.own))
 
@@ -265,22 +299,16 @@ module _ {T : Type 0} (z : Shape) (ok : IsShape z) (history : List Act) (lanes :
         omega (arith, low, same)
 
     -- its returned places are marked
-    pub returned-own : (mid : Slots ℕ) → ((first : List ℕ) (others : ℕ → List ℕ) → AreFreePlaces z (slots_items now) state.number state.free first others
-        → Blanks z (returned_places z state.number first others) now mid) → Blanks z (returned_places z lane.number chain threads) now mid
-    returned-own mid marks = subst (λ n. Blanks z (returned_places z n chain threads) now mid) own.number_is (marks chain threads stand-now)
+    pub returned-own : (mid : Slots ℕ) → ((first : List ℕ) (others : ℕ → List ℕ) (by_guests : List ℕ)
+        → AreFreePlaces z (slots_items now) state.number state.pages.opened state.free first others by_guests
+        → Blanks z (returned_places z state.number first others by_guests) now mid) → Blanks z (returned_places z lane.number chain threads given) now mid
+    returned-own mid marks = subst (λ n. Blanks z (returned_places z n chain threads given) now mid) own.number_is (marks chain threads given stand-now)
 
-    module _ (mid : Slots ℕ) (returned : Blanks z (returned_places z lane.number chain threads) now mid) where
-      returned-inside : (place : ℕ) → 0 < times place (returned_places z lane.number chain threads) → is_place z place ≡ true
-      returned-inside place some =
-          let front = times-append place chain (stacked lane.number threads z.lanes) in
-          dite (ℕ_discrete (times place chain) 0)
-          (λ unchained. (stacked-inside z (slots_items now) lane.number z.lanes threads stand-own.returned (omega arith) place (omega arith)).0)
-          (λ chained. (stand-own.chained.1.inside place (omega arith)).0)
+    module _ (mid : Slots ℕ) (returned : Blanks z (returned_places z lane.number chain threads given) now mid) where
+      blanked-mid : AreBlanked (returned_places z lane.number chain threads given) (words_in z (slots_items now)) (words_in z (slots_items mid))
+      blanked-mid = blanks-words z ok (returned_places z lane.number chain threads given) now mid h.blanks.row (λ place some. (of-shard place some).0) returned
 
-      blanked-mid : AreBlanked (returned_places z lane.number chain threads) (words_in z (slots_items now)) (words_in z (slots_items mid))
-      blanked-mid = blanks-words z ok (returned_places z lane.number chain threads) now mid h.blanks.row returned-inside returned
-
-      last-word : (place : ℕ) → shard_of place ≡ lane.number → times place (returned_places z lane.number chain threads) ≡ 0
+      last-word : (place : ℕ) → shard_of place ≡ lane.number → times place (returned_places z lane.number chain threads given) ≡ 0
           → (words_in z (slots_items mid)).life place ≡ (words_in z (slots_items old)).life place
       last-word place of_shard none = blanked-mid.kept place none ∙ so_far_blanked.kept place (unmarked place of_shard)
 
@@ -301,42 +329,33 @@ module _ {T : Type 0} (z : Shape) (ok : IsShape z) (history : List Act) (lanes :
           is : (pool_after z history place).phase ≡ with lane.number
           is = own.unopened place inside of_shard low
 
-          unreturned : times place (returned_places z lane.number chain threads) ≡ 0
-          unreturned = no_times (times place (returned_places z lane.number chain threads)) (λ some.
-              let front = times-append place chain (stacked lane.number threads z.lanes) in
-              dite (ℕ_discrete (times place chain) 0)
-              (λ unchained.
-              let at_home : with lane.number ≡ home = sym is ∙ stacked-home z history lanes states (slots_items old) last lane state own place (omega arith) in
-              cc at_home)
-              (λ chained. let opened = (own.chained place (has-some place chain (omega arith))).opened in omega (arith, opened, low)))
+          unreturned : times place (returned_places z lane.number chain threads given) ≡ 0
+          unreturned = no_times (times place (returned_places z lane.number chain threads given)) (λ some. ⊎_elim
+              (λ (chained : 0 < times place chain). let opened = (own.chained place (has-some place chain chained)).opened in omega (arith, opened, low))
+              (λ (at : (pool_after z history place).phase ≡ home). let at_home : with lane.number ≡ home = sym is ∙ at in cc at_home)
+              (returned-either place some))
 
           word : (words_in z (slots_items mid)).life place ≡ (words_in z (slots_items old)).life place
           word = last-word place of_shard unreturned
 
       -- a published place was not returned
       away : (place : ℕ) (content : List ℕ) (references : ℕ → ℕ) (mark : Bool) → (pool_after z history place).phase ≡ published content references mark
-          → times place (returned_places z lane.number chain threads) ≡ 0
-      away place content references mark is = no_times (times place (returned_places z lane.number chain threads)) (λ some.
-          let front = times-append place chain (stacked lane.number threads z.lanes) in
-          dite (ℕ_discrete (times place chain) 0)
-          (λ unchained.
-          let at_home : published content references mark ≡ home = sym is ∙ stacked-home z history lanes states (slots_items old) last lane state own place (omega arith) in
-          cc at_home)
-          (λ chained.
-          let with_lane : published content references mark ≡ with lane.number = sym is ∙ (own.chained place (has-some place chain (omega arith))).with_lane in
-          cc with_lane))
+          → times place (returned_places z lane.number chain threads given) ≡ 0
+      away place content references mark is = no_times (times place (returned_places z lane.number chain threads given)) (λ some. ⊎_elim
+          (λ (chained : 0 < times place chain).
+          let with_lane : published content references mark ≡ with lane.number = sym is ∙ (own.chained place (has-some place chain chained)).with_lane in
+          cc with_lane)
+          (λ (at : (pool_after z history place).phase ≡ home). let at_home : published content references mark ≡ home = sym is ∙ at in cc at_home)
+          (returned-either place some))
 
       -- nor was a retired one
-      away-retired : (place : ℕ) → (pool_after z history place).phase ≡ retired → times place (returned_places z lane.number chain threads) ≡ 0
-      away-retired place is = no_times (times place (returned_places z lane.number chain threads)) (λ some.
-          let front = times-append place chain (stacked lane.number threads z.lanes) in
-          dite (ℕ_discrete (times place chain) 0)
-          (λ unchained.
-          let at_home : retired ≡ home = sym is ∙ stacked-home z history lanes states (slots_items old) last lane state own place (omega arith) in
-          cc at_home)
-          (λ chained.
-          let with_lane : retired ≡ with lane.number = sym is ∙ (own.chained place (has-some place chain (omega arith))).with_lane in
-          cc with_lane))
+      away-retired : (place : ℕ) → (pool_after z history place).phase ≡ retired → times place (returned_places z lane.number chain threads given) ≡ 0
+      away-retired place is = no_times (times place (returned_places z lane.number chain threads given)) (λ some. ⊎_elim
+          (λ (chained : 0 < times place chain).
+          let with_lane : retired ≡ with lane.number = sym is ∙ (own.chained place (has-some place chain chained)).with_lane in
+          cc with_lane)
+          (λ (at : (pool_after z history place).phase ≡ home). let at_home : retired ≡ home = sym is ∙ at in cc at_home)
+          (returned-either place some))
 
       retired-bits : (place : ℕ) → is_place z place ≡ true → shard_of place ≡ lane.number → (pool_after z history place).phase ≡ retired
           → state_in ((words_in z (slots_items mid)).life place) ≡ 2
@@ -362,19 +381,19 @@ module _ {T : Type 0} (z : Shape) (ok : IsShape z) (history : List Act) (lanes :
         spread = λ content references mark is. none.unspread (published-bits place inside of_shard content references mark is);
         retires = λ is. none.unretired (retired-bits place inside of_shard is);
         returned = λ is.
-            let on = home-stacked z history lanes states (slots_items old) last lane state own place inside of_shard is in
-            let front = times-append place chain (stacked lane.number threads z.lanes) in
-            none.unrested (blanked-mid.gone place (omega (arith, on, front)));
+            let on = home-returned z history lanes states (slots_items old) last lane state own place inside of_shard is in
+            let whole = times-returned place in
+            none.unrested (blanked-mid.gone place (omega (arith, on, whole)));
         taken = λ index other at_other among.
             let number : other.number ≡ lane.number = sym (kept-own index other at_other place among) ∙ of_shard in
             let same = same-index lanes z.lanes last.count.0 (λ number low. let a = last.all number low in (a.0, (a.1, a.2, a.3))) index count other lane at_other found.1 number
             (subst (λ n. n < z.lanes) (sym number) own.below) in
             let is : other ≡ lane = some-same other lane (sym at_other ∙ (ap (slice_get lanes) same ∙ found.1)) in
             let mine : has chain place ≡ true = subst (λ (l : LaneOf). has (the_lane l.book).chain place ≡ true) is among in
-            let front = times-append place chain (stacked lane.number threads z.lanes) in
+            let whole = times-returned place in
             dite (ℕ_discrete (times place chain) 0)
             (λ unchained. absurd (cc (sym mine ∙ has-none place chain unchained)))
-            (λ chained. none.unrested (blanked-mid.gone place (omega (arith, chained, front))));
+            (λ chained. none.unrested (blanked-mid.gone place (omega (arith, chained, whole))));
       }
         where
           kept-own : (index : ℕ) (other : LaneOf) → slice_get lanes index ≡ Some other → (p : ℕ) → has (the_lane other.book).chain p ≡ true → shard_of p ≡ other.number
@@ -405,18 +424,17 @@ module _ {T : Type 0} (z : Shape) (ok : IsShape z) (history : List Act) (lanes :
             (slots.gone place inside index before at_index));
       }
 
-    module _ (mid : Slots ℕ) (returned : Blanks z (returned_places z lane.number chain threads) now mid) {spots : ℕ → CellSpot}
+    module _ (mid : Slots ℕ) (returned : Blanks z (returned_places z lane.number chain threads given) now mid) {spots : ℕ → CellSpot}
         {cells_old cells_now : Slots (Option (Share T))} (cells : HasCells spots z history lanes (slots_items cells_old)) (slots : SlotsSoFar z history lanes count cells_old cells_now) where
       module _ (place : ℕ) (inside : is_place z place ≡ true) (of_shard : shard_of place ≡ lane.number) where
         same-slots : SameSlots z (slots_items cells_old) (slots_items cells_now) place
         same-slots = slots.kept place inside (not-earlier place of_shard)
 
-        rests : 0 < times place (returned_places z lane.number chain threads) → IsResting spots z (slots_items cells_old) place
-        rests some =
-            let front = times-append place chain (stacked lane.number threads z.lanes) in
-            dite (ℕ_discrete (times place chain) 0)
-            (λ unchained. cells.returned place inside (stacked-home z history lanes states (slots_items old) last lane state own place (omega arith)))
-            (λ chained. cells.taken count lane place inside found.1 (has-some place chain (omega arith)))
+        rests : 0 < times place (returned_places z lane.number chain threads given) → IsResting spots z (slots_items cells_old) place
+        rests some = ⊎_elim
+            (λ (chained : 0 < times place chain). cells.taken count lane place inside found.1 (has-some place chain chained))
+            (λ (at : (pool_after z history place).phase ≡ home). cells.returned place inside at)
+            (returned-either place some)
 
         spreads : (bits : ℕ) → (bits ≡ 1) ⊎ (bits ≡ 3) → (phase : Phase) → (pool_after z history place).phase ≡ phase → bits ≡ bits_of phase → IsSpread spots z (slots_items cells_old) place
         spreads bits some (with owner) is same = absurd (⊎_elim (λ one. omega (arith, one, same)) (λ three. omega (arith, three, same)) some)
@@ -434,19 +452,19 @@ module _ {T : Type 0} (z : Shape) (ok : IsShape z) (history : List Act) (lanes :
         -- what the slots of a place of the shard have, by its word, which is 0 where it was returned
         has-cell : HasCell spots z (slots_items cells_now) place ((words_in z (slots_items mid)).life place)
         has-cell = cell-stays z (slots_items cells_old) (slots_items cells_now) place ((words_in z (slots_items mid)).life place) inside same-slots (record {
-          resting = λ none. dite (ℕ_discrete (times place (returned_places z lane.number chain threads)) 0)
-              (λ (unreturned : times place (returned_places z lane.number chain threads) ≡ 0).
+          resting = λ none. dite (ℕ_discrete (times place (returned_places z lane.number chain threads given)) 0)
+              (λ (unreturned : times place (returned_places z lane.number chain threads given) ≡ 0).
               absurd (word-some z history lanes states (slots_items old) last lane state own place inside (sym (last-word mid returned place of_shard unreturned) ∙ none)))
               (λ there. rests (omega arith));
-          retired = λ two. dite (ℕ_discrete (times place (returned_places z lane.number chain threads)) 0)
-              (λ (unreturned : times place (returned_places z lane.number chain threads) ≡ 0).
+          retired = λ two. dite (ℕ_discrete (times place (returned_places z lane.number chain threads given)) 0)
+              (λ (unreturned : times place (returned_places z lane.number chain threads given) ≡ 0).
               retires (state_in ((words_in z (slots_items mid)).life place)) two (pool_after z history place).phase refl
               (ap state_in (last-word mid returned place of_shard unreturned) ∙ (last.state place inside).0))
               (λ there.
               let gone : state_in ((words_in z (slots_items mid)).life place) ≡ 0 = ap state_in ((blanked-mid mid returned).gone place (omega arith)) in
               absurd (omega (arith, two, gone)));
-          spread = λ bits. dite (ℕ_discrete (times place (returned_places z lane.number chain threads)) 0)
-              (λ (unreturned : times place (returned_places z lane.number chain threads) ≡ 0).
+          spread = λ bits. dite (ℕ_discrete (times place (returned_places z lane.number chain threads given)) 0)
+              (λ (unreturned : times place (returned_places z lane.number chain threads given) ≡ 0).
               spreads (state_in ((words_in z (slots_items mid)).life place)) bits (pool_after z history place).phase refl
               (ap state_in (last-word mid returned place of_shard unreturned) ∙ (last.state place inside).0))
               (λ there.
@@ -457,10 +475,10 @@ module _ {T : Type 0} (z : Shape) (ok : IsShape z) (history : List Act) (lanes :
       pub have-cells : (place : ℕ) → is_place z place ≡ true → shard_of place ≡ state.number → HasCell spots z (slots_items cells_now) place ((words_in z (slots_items mid)).life place)
       have-cells place inside of_shelf = has-cell place inside (of_shelf ∙ own.number_is)
 
-    module _ (then : Slots ℕ) (after : Census) (marks : Blanks z (free_places z lane.number state.free chain threads) now then)
+    module _ (then : Slots ℕ) (after : Census) (marks : Blanks z (free_places z lane.number state.free chain threads given) now then)
         (counts : Counts z lane.number state.pages.opened (slots_items then) census after) where
-      blanked_then : AreBlanked (free_places z lane.number state.free chain threads) (words_in z (slots_items now)) (words_in z (slots_items then))
-      blanked_then = blanks-words z ok (free_places z lane.number state.free chain threads) now then h.blanks.row (λ place some. (free-own place some).0) marks
+      blanked_then : AreBlanked (free_places z lane.number state.free chain threads given) (words_in z (slots_items now)) (words_in z (slots_items then))
+      blanked_then = blanks-words z ok (free_places z lane.number state.free chain threads given) now then h.blanks.row (λ place some. (free-own place some).0) marks
 
       -- what a place of the shard was counted as
       this-part : (place : ℕ) → is_place z place ≡ true → shard_of place ≡ lane.number
@@ -484,15 +502,15 @@ module _ {T : Type 0} (z : Shape) (ok : IsShape z) (history : List Act) (lanes :
 
       one-more : SoFar z history lanes old (count + 1) then after
       one-more = record {
-        marked = h.marked ++ free_places z lane.number state.free chain threads;
-        blanks = blanks-then z h.marked (free_places z lane.number state.free chain threads) old now then h.blanks marks;
+        marked = h.marked ++ free_places z lane.number state.free chain threads given;
+        blanks = blanks-then z h.marked (free_places z lane.number state.free chain threads given) old now then h.blanks marks;
         inside = λ place some.
-            let both = times-append place h.marked (free_places z lane.number state.free chain threads) in
+            let both = times-append place h.marked (free_places z lane.number state.free chain threads given) in
             dite (ℕ_discrete (times place h.marked) 0)
             (λ none. (free-own place (omega arith)).0)
             (λ more. h.inside place (omega arith));
         earlier = λ place some.
-            let both = times-append place h.marked (free_places z lane.number state.free chain threads) in
+            let both = times-append place h.marked (free_places z lane.number state.free chain threads given) in
             dite (ℕ_discrete (times place h.marked) 0)
             (λ none. (count, omega arith, (lane, found.1, sym (free-own place (omega arith)).1)))
             (λ more. let before = h.earlier place (omega arith) in let low = before.1 in (before.0, omega arith, before.2));
@@ -515,10 +533,11 @@ module _ {T : Type 0} (z : Shape) (ok : IsShape z) (history : List Act) (lanes :
 
     -- its free places are marked and its places counted
     pub so-far-more : (then : Slots ℕ) (after : Census)
-        → ((first : List ℕ) (others : ℕ → List ℕ) → AreFreePlaces z (slots_items now) state.number state.free first others → Blanks z (free_places z state.number state.free first others) now then)
+        → ((first : List ℕ) (others : ℕ → List ℕ) (by_guests : List ℕ) → AreFreePlaces z (slots_items now) state.number state.pages.opened state.free first others by_guests
+        → Blanks z (free_places z state.number state.free first others by_guests) now then)
         → Counts z state.number state.pages.opened (slots_items then) census after → SoFar z history lanes old (count + 1) then after
     so-far-more then after marks counts = one-more then after
-        (subst (λ n. Blanks z (free_places z n state.free chain threads) now then) own.number_is (marks chain threads stand-now))
+        (subst (λ n. Blanks z (free_places z n state.free chain threads given) now then) own.number_is (marks chain threads given stand-now))
         (subst (λ n. Counts z n state.pages.opened (slots_items then) census after) own.number_is counts)
 
 -- ---- at the end

@@ -21,13 +21,14 @@ use Rattle.poolsteps.proofs.shares.WithPlaces.{with-law}
 use Rattle.poolsteps.specs.declared.view.View.{View}
 use Rattle.poolsteps.specs.Views.{the_lane, pushed_in, known_of}
 use Rattle.poolsteps.specs.Told.{MayPublish, IsIdle}
-use Rattle.shardpool.specs.Acted.{Acted}
-use Rattle.shardpool.proofs.parts.Going.{all-acts}
-use Rattle.shardpool.specs.Places.{IsBlank, IsResting, left_with, has_retired}
+use Rattle.seatcalls.specs.Acted.{Acted}
+use Rattle.seatcalls.proofs.parts.Going.{all-acts}
+use Rattle.shardpool.specs.Places.{IsBlank, IsResting}
+use Rattle.seatcalls.specs.Left.{left_with, has_retired}
 use Rattle.shardpool.specs.LaneStates.{FitsSeat, FitsTops}
-use Rattle.shardpool.proofs.frame.OtherShards.{NoneAbroad, abroad-append}
-use Rattle.shardpool.proofs.frame.Frames.{Passes}
-use Rattle.shardpool.proofs.frame.RetiredPlaces.{Retires, retired-append}
+use Rattle.seatcalls.proofs.parts.OtherShards.{NoneAbroad, abroad-append}
+use Rattle.seatcalls.proofs.parts.Frames.{Passes}
+use Rattle.seatcalls.proofs.parts.RetiredPlaces.{Retires, retired-append}
 
 -- ---- what the lane keeps beside its seat
 

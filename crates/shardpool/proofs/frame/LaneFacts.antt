@@ -1,5 +1,5 @@
 -- What calls leave of lanes, as contracts see them.
-use Rattle.std.proofs.Common.{◌≡◌, ◌≢◌, ⊎_elim, ℕ, ◌<◌, Bool, true, false, cond, eqb, List, [], ◌∷◌, ◌++◌, Option, Some, None, refl, sym, ap, ◌∙◌, subst, Contains, not, ◌&&◌, length, eq-eqb, ne_eqb}
+use Rattle.std.proofs.Common.{arith, ◌≡◌, ◌≢◌, ⊎_elim, ℕ, ◌<◌, Bool, true, false, cond, eqb, List, [], ◌∷◌, ◌++◌, Option, Some, None, refl, sym, ap, ◌∙◌, subst, Contains, not, ◌&&◌, length, eq-eqb, ne_eqb}
 use Rattle.std.proofs.lemmas.List.Elements.{All-nil, All-cons, All-head, All-tail, All-contains, Contains-append_cases}
 use Rattle.std.specs.List.{All}
 use mathlib.Core.Logic.{dite}
@@ -24,13 +24,13 @@ use Rattle.poolsteps.specs.Layout.{slot_start}
 use Rattle.poolsteps.specs.Views.{the_lane, status_of}
 use Rattle.poolsteps.specs.Told.{IsIdle, references_seen, MayPublish}
 use Rattle.poolsteps.specs.ViewLaws.{references_made}
-use Rattle.shardpool.specs.Carried.{AreEmptied}
-use Rattle.shardpool.specs.declared.reclaim.Reclaimed.{Reclaimed}
-use Rattle.shardpool.specs.Called.{MovedNothing}
+use Rattle.seatcalls.specs.Carried.{AreEmptied}
+use Rattle.seatcalls.specs.declared.at.Reclaimed.{Reclaimed}
+use Rattle.seatcalls.specs.Called.{MovedNothing}
 use Rattle.shardpool.specs.declared.pool.LaneState.{LaneState}
 use Rattle.shardpool.specs.Tokens.{LaneOf, FillingOf}
 use Rattle.shardpool.specs.Lanes.{Made, Did, freed}
-use Rattle.shardpool.proofs.frame.Frames.{Passes}
+use Rattle.seatcalls.proofs.parts.Frames.{Passes}
 use Rattle.shardpool.proofs.frame.LaneFrames.{passes-refs, away-elsewhere}
 use Rattle.shardpool.proofs.frame.Standing.{sees-on}
 use Rattle.shardpool.proofs.frame.KeptPlaces.{still-with, none-brings, may-passes}
@@ -123,8 +123,8 @@ pub filling-off : {T : Type 0} (z : Shape) (v w : View) (place p : ℕ) (reclaim
     → AreEmptied z (the_lane v) p → touched_by place reclaimed p ≡ false
 filling-off z v w place p None some moved emptied = refl
 filling-off z v w place p (Some reclaimed) some moved emptied = ne_eqb p place (λ here.
-    let left : status_of (the_lane v) p 0 ≡ Untouched = ap (λ (q : ℕ). status_of (the_lane v) q 0) here ∙ moved 0 some in
-    let bad : Emptied ≡ Untouched = sym (emptied 0 some) ∙ left in cc bad)
+    let left : status_of (the_lane v) p 0 ≡ Untouched = ap (λ (q : ℕ). status_of (the_lane v) q 0) here ∙ moved 0 (omega (arith, some)) in
+    let bad : Emptied ≡ Untouched = sym (emptied 0 (omega (arith, some))) ∙ left in cc bad)
 
 -- and it wasn't given away
 pub filling-kept : {T : Type 0} {content : T → List ℕ} {room : T → ℕ} {z : Shape} {v w : View} {s t : LaneState T} {made : List Act} (place p : ℕ)

@@ -27,15 +27,15 @@ use Rattle.poolsteps.specs.Told.{GoesOn, Sees, references_seen}
 use Rattle.poolsteps.specs.Moved.{Outs, Backs}
 use Rattle.poolsteps.specs.ViewLaws.{references_with, references_made}
 use Rattle.poolsteps.proofs.Holding.{acts-law}
-use Rattle.shardpool.specs.Acted.{Acted}
-use Rattle.shardpool.specs.Carried.{Carries}
-use Rattle.shardpool.proofs.parts.Going.{acted-goes, acted-more, all-acts}
-use Rattle.shardpool.proofs.parts.Moves.{carries-out, carries-back}
-use Rattle.shardpool.specs.declared.reclaim.Reclaimed.{Reclaimed}
-use Rattle.shardpool.specs.declared.reclaim.Reclaimed.TheVariants.{Own, Returned, Retired}
-use Rattle.shardpool.specs.Called.{IsUnmoved, Did, end_acts}
-use Rattle.shardpool.proofs.parts.Doing.{did-carries}
-use Rattle.shardpool.proofs.frame.Frames.{Passes, OnlyAt}
+use Rattle.seatcalls.specs.Acted.{Acted}
+use Rattle.seatcalls.specs.Carried.{Carries}
+use Rattle.seatcalls.proofs.parts.Going.{acted-goes, acted-more, all-acts}
+use Rattle.seatcalls.proofs.parts.Moves.{carries-out, carries-back}
+use Rattle.seatcalls.specs.declared.at.Reclaimed.{Reclaimed}
+use Rattle.seatcalls.specs.declared.at.Reclaimed.TheVariants.{Own, Returned, Retired}
+use Rattle.seatcalls.specs.Called.{IsUnmoved, Did, end_acts}
+use Rattle.seatcalls.proofs.parts.Doing.{did-carries}
+use Rattle.seatcalls.proofs.parts.Frames.{Passes, OnlyAt}
 
 -- ---- from what the lane did to what is common
 

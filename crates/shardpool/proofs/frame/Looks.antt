@@ -14,7 +14,7 @@ use Rattle.poolsteps.specs.declared.view.View.{View}
 use Rattle.poolsteps.specs.Layout.{slot_start}
 use Rattle.poolsteps.specs.Views.{the_lane}
 use Rattle.poolsteps.specs.Told.{Sees, MayPublish}
-use Rattle.shardpool.specs.Carried.{AreEmptied}
+use Rattle.seatcalls.specs.Carried.{AreEmptied}
 use Rattle.shardpool.specs.Tokens.{LaneOf, FillingOf}
 use Rattle.shardpool.specs.Lanes.{IsFilling, SameLane}
 use Rattle.shardpool.specs.LaneStates.{FitsSeat}

@@ -23,12 +23,12 @@ use Rattle.poolsteps.specs.declared.view.View.{View}
 use Rattle.poolsteps.specs.Layout.{slot_start}
 use Rattle.poolsteps.specs.Views.{head_record, the_lane}
 use Rattle.poolsteps.specs.Told.{Sees, IsIdle, MayPublish, references_seen}
-use Rattle.shardpool.specs.Carried.{AreEmptied}
+use Rattle.seatcalls.specs.Carried.{AreEmptied}
 use Rattle.shardpool.specs.declared.pool.LaneState.{LaneState}
 use Rattle.shardpool.specs.Tokens.{PoolOf, LaneOf, FillingOf}
 use Rattle.shardpool.specs.Lanes.{SameLane, Made, Did}
 use Rattle.shardpool.specs.LaneStates.{FitsSeat, Fits}
-use Rattle.shardpool.proofs.frame.Frames.{Passes}
+use Rattle.seatcalls.proofs.parts.Frames.{Passes}
 use Rattle.shardpool.proofs.frame.LaneFrames.{passes-sees, passes-refs, onlyat-none}
 use Rattle.shardpool.proofs.frame.Standing.{sees-on}
 use Rattle.shardpool.proofs.frame.KeptPlaces.{seat-passes, last_pushed-same, still-with, may-passes}

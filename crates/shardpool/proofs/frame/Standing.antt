@@ -14,8 +14,8 @@ use Rattle.seqpool.proofs.Misses.{clear-law, miss-law, later-law, at-later}
 use Rattle.seqpool.proofs.Positions.{at-below}
 use Rattle.seqpool.proofs.Growth.{acts-append, legal-at}
 use Rattle.poolsteps.specs.Views.{the_lane}
-use Rattle.shardpool.specs.Acted.{Acted}
-use Rattle.shardpool.proofs.parts.Going.{all-acts}
+use Rattle.seatcalls.specs.Acted.{Acted}
+use Rattle.seatcalls.proofs.parts.Going.{all-acts}
 use Rattle.shardpool.specs.Tokens.{LaneOf}
 use Rattle.shardpool.specs.Lanes.{SeesOn, Did}
 use Rattle.shardpool.specs.Seen.{StandsSince, PublishedSince, FoundSince, MissedSince, ClearedSince}

@@ -24,19 +24,19 @@ use Rattle.poolsteps.specs.declared.view.LaneRecord.{LaneRecord}
 use Rattle.poolsteps.specs.declared.view.View.{View}
 use Rattle.poolsteps.specs.Views.{the_lane, known_in, status_of, known_of}
 use Rattle.poolsteps.specs.Returned.{rest_of, with_cells, taken_record, LeadsTo}
-use Rattle.shardpool.specs.Carried.{AreEmptied}
+use Rattle.seatcalls.specs.Carried.{AreEmptied}
 use Rattle.shardpool.specs.Places.{IsBlank, IsResting}
 use Rattle.shardpool.specs.LaneStates.{IsFirst, FitsStores}
-use Rattle.shardpool.proofs.frame.Frames.{Passes}
+use Rattle.seatcalls.proofs.parts.Frames.{Passes}
 use Rattle.shardpool.proofs.frame.KeptPlaces.{spot-passes, still-with, none-brings, resting-passes}
 use Rattle.shardpool.proofs.free.Stores.{Spared, stores-onto, own-numbered, numbered}
 
 -- the slots of a place at rest are not all emptied
-rest-full : (z : Shape) (v : View) (p : ℕ) → (the_lane v).lane < z.lanes → IsResting z v p → AreEmptied z (the_lane v) p → ⊥
+pub rest-full : (z : Shape) (v : View) (p : ℕ) → (the_lane v).lane < z.lanes → IsResting z v p → AreEmptied z (the_lane v) p → ⊥
 rest-full z v p below rests emptied =
     let lane : ℕ = (the_lane v).lane in
     let whole : at_rest p lane ≡ Whole = ap (λ b. cond b Whole Emptied) (eq-eqb lane (shard_of p) (sym rests.own)) in
-    let bad : Emptied ≡ Whole = sym (emptied lane below) ∙ (rests.rests lane below ∙ whole) in cc bad
+    let bad : Emptied ≡ Whole = sym (emptied lane (omega (arith, below))) ∙ (rests.rests lane (omega (arith, below)) ∙ whole) in cc bad
 
 has-first : (place : ℕ) (more : List ℕ) → has (place ∷ more) place ≡ true
 has-first place more = ap (λ (b : Bool). cond b true (has more place)) (eq-eqb place place refl)
@@ -189,7 +189,7 @@ module _ {T : Type 0} {content : T → List ℕ} {room : T → ℕ} {z : Shape} 
 
 -- ---- what a TAKE leaves of the lane's record
 
-known-with : (stored : ℕ → Stored) (places : List ℕ) (cells : List (ℕ × Stored)) (p : ℕ)
+pub known-with : (stored : ℕ → Stored) (places : List ℕ) (cells : List (ℕ × Stored)) (p : ℕ)
     → known_in (with_cells stored places cells) p ≡ cond (has places p) (stored p) (known_in cells p)
 known-with stored [] cells p = refl
 known-with stored (place ∷ more) cells p =

@@ -10,7 +10,7 @@ use native.Mathlib.Decide.{ℕ_discrete}
 use Rattle.keybits.specs.declared.shape.Shape.{Shape}
 use Rattle.keybits.specs.declared.place.Place.{Place}
 use Rattle.keybits.specs.Places.{shard_of, page_of, number_of}
-use Rattle.keybits.specs.Shapes.{IsShape, is_place, index_of}
+use Rattle.keybits.specs.Shapes.{callers, IsShape, is_place, index_of}
 use Rattle.keybits.proofs.PlaceLemmas.{place_at-parts}
 use Rattle.keybits.proofs.ShapeLemmas.{index_of-lt}
 use Rattle.freelists.specs.Shards.{ShardPages, IsOwn, shape_of, place_numbered}
@@ -26,15 +26,15 @@ use Rattle.poolsteps.specs.declared.view.View.{View}
 use Rattle.poolsteps.specs.Views.{the_lane, status_of}
 use Rattle.poolsteps.specs.Told.{LeftAlone}
 use Rattle.poolsteps.specs.Returned.{rest_of}
-use Rattle.shardpool.specs.declared.reclaim.Reclaimed.{Reclaimed}
-use Rattle.shardpool.specs.declared.reclaim.Reclaimed.TheVariants.{Own, Returned, Retired}
+use Rattle.seatcalls.specs.declared.at.Reclaimed.{Reclaimed}
+use Rattle.seatcalls.specs.declared.at.Reclaimed.TheVariants.{Own, Returned, Retired}
 use Rattle.shardpool.specs.declared.pool.LaneState.{LaneState}
 use Rattle.shardpool.specs.Stores.{Keeps}
 use Rattle.shardpool.specs.Tokens.{LaneOf}
 use Rattle.shardpool.specs.Places.{IsBlank, IsResting}
 use Rattle.shardpool.specs.LaneStates.{IsFirst, IsListed, FitsStores}
 use Rattle.shardpool.specs.Lanes.{IsFilling}
-use Rattle.shardpool.proofs.frame.Frames.{Passes, OnlyAt}
+use Rattle.seatcalls.proofs.parts.Frames.{Passes, OnlyAt}
 use Rattle.shardpool.proofs.frame.LaneFrames.{away-elsewhere}
 use Rattle.shardpool.proofs.frame.KeptPlaces.{blank-passes, resting-passes}
 
@@ -112,9 +112,9 @@ module _ {T : Type 0} {content : T → List ℕ} {room : T → ℕ} {z : Shape} 
 
   -- so it is with a place whose slots the lane left alone
   pub alone-apart : 0 < z.lanes → (place : ℕ) → LeftAlone z (the_lane v) place → IsApart z v free pages place
-  alone-apart some place alone = apart-by (λ p. status_of (the_lane v) p 0 ≡ Untouched) place (alone 0 some)
-      (λ p most blank left. let bad : Untouched ≡ Emptied = sym left ∙ blank.emptied 0 some in cc bad)
-      (λ p rests left. rest-touched p 0 (sym (rests.rests 0 some) ∙ left))
+  alone-apart some place alone = let one : 0 < callers z = omega (arith, some) in apart-by (λ p. status_of (the_lane v) p 0 ≡ Untouched) place (alone 0 one)
+      (λ p most blank left. let bad : Untouched ≡ Emptied = sym left ∙ blank.emptied 0 one in cc bad)
+      (λ p rests left. rest-touched p 0 (sym (rests.rests 0 one) ∙ left))
 
   -- and with a place that isn't with the lane
   pub elsewhere-apart : (place : ℕ) → (pool_after z v.seen place).phase ≢ with (the_lane v).lane → IsApart z v free pages place

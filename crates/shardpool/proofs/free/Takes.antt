@@ -23,18 +23,19 @@ use Rattle.poolsteps.specs.declared.view.View.{View}
 use Rattle.poolsteps.specs.Views.{the_lane, status_of, known_of}
 use Rattle.poolsteps.specs.Told.{references_seen}
 use Rattle.poolsteps.specs.Returned.{rest_of, taken_record, LeadsTo}
-use Rattle.shardpool.specs.Taken.{Went, IsCollected, Collects, FollowsOut}
+use Rattle.seatcalls.specs.Taken.{Went, IsCollected, Collects, FollowsOut}
 use Rattle.shardpool.specs.HeldKeys.{HeldKey}
 use Rattle.shardpool.specs.declared.pool.LaneState.{LaneState}
 use Rattle.shardpool.specs.Tokens.{PoolOf, LaneOf, FillingOf}
 use Rattle.shardpool.specs.Lanes.{Made}
-use Rattle.shardpool.specs.Places.{IsResting, has_retired}
+use Rattle.shardpool.specs.Places.{IsResting}
+use Rattle.seatcalls.specs.Left.{has_retired}
 use Rattle.shardpool.specs.Stores.{FollowsOn}
 use Rattle.shardpool.specs.LaneStates.{IsFirst, FitsRow, FitsStores, Fits}
 use Rattle.shardpool.specs.Stores.{Hangs}
 use Rattle.shardpool.specs.Creates.{FollowsChain, TakesReturned}
-use Rattle.shardpool.proofs.frame.OtherShards.{NoneAbroad, abroad-one}
-use Rattle.shardpool.proofs.frame.Frames.{Passes}
+use Rattle.seatcalls.proofs.parts.OtherShards.{NoneAbroad, abroad-one}
+use Rattle.seatcalls.proofs.parts.Frames.{Passes}
 use Rattle.shardpool.proofs.frame.LaneFrames.{passes-refs, onlyat-none}
 use Rattle.shardpool.proofs.frame.KeptPlaces.{seat-passes, last_pushed-same}
 use Rattle.shardpool.proofs.free.Stores.{own-inside, numbered, blank-wider, stores-still}
@@ -42,7 +43,7 @@ use Rattle.shardpool.proofs.free.Chains.{rest-unlisted, uncollected, collected-a
 use Rattle.shardpool.proofs.references.Rows.{rows-pass}
 use Rattle.shardpool.proofs.frame.LaneFacts.{lane_of}
 use Rattle.shardpool.proofs.frame.SeenHistories.{same-shape, made-passes, made-still}
-use Rattle.shardpool.proofs.frame.RetiredPlaces.{Retires, retires-else, retired-phase}
+use Rattle.seatcalls.proofs.parts.RetiredPlaces.{Retires, retires-else, retired-phase}
 
 -- ---- rows
 
@@ -51,14 +52,14 @@ none-either true = refl
 none-either false = refl
 
 -- nobody refers to a key of a place that is with a lane
-no-references : (z : Shape) (v : View) (key place : ℕ) {lane : ℕ} → (pool_after z v.seen place).phase ≡ with lane → place_of key ≡ place → references_seen z v key ≡ 0
+pub no-references : (z : Shape) (v : View) (key place : ℕ) {lane : ℕ} → (pool_after z v.seen place).phase ≡ with lane → place_of key ≡ place → references_seen z v key ≡ 0
 no-references z v key place is here =
     let b : Bool = is_current z (pool_after z v.seen) key in
     ap (λ (p : ℕ). cond b (references_in (pool_after z v.seen p).phase (the_lane v).lane) 0) here
     ∙ (ap (λ (f : Phase). cond b (references_in f (the_lane v).lane) 0) is ∙ none-either b)
 
 -- a row of a place to whose keys the lane has no reference counts none
-unheld : {T : Type 0} {content : T → List ℕ} {room : T → ℕ} {z : Shape} {v : View} {place : ℕ} {row : HeldKey T} → FitsRow content room z v place row
+pub unheld : {T : Type 0} {content : T → List ℕ} {room : T → ℕ} {z : Shape} {v : View} {place : ℕ} {row : HeldKey T} → FitsRow content room z v place row
     → ((key : ℕ) → place_of key ≡ place → references_seen z v key ≡ 0) → 0 < row.count → ⊥
 unheld {row = row} fits none some =
     let k = fits.keyed some in

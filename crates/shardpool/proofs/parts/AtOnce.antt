@@ -14,19 +14,20 @@ use Rattle.seqpool.specs.declared.act.Act.TheVariants as acts
 use Rattle.steplaws.specs.StepLaws.{reclaim}
 use Rattle.poolsteps.specs.declared.view.LaneRecord.{LaneRecord}
 use Rattle.poolsteps.specs.Views.{head_record}
-use Rattle.shardpool.proofs.parts.Doing.{did-sees, did-most, did-more, same-caller}
+use Rattle.seatcalls.proofs.parts.SweptWords.{first, hit, owes, of, won, present, referred-so, marks-present, owes-nothing}
+use Rattle.seatcalls.proofs.parts.Doing.{did-sees, did-most, did-more, same-caller}
 use Rattle.steplaws.specs.Calls.{Call, Caller, key_in, next_step, AreSteps, is_hit, owes_claim}
 use Rattle.steplaws.specs.Calls.Call.{Clearing}
 use Rattle.poolsteps.specs.declared.view.View.{View}
 use Rattle.poolsteps.specs.Views.{the_lane, IsOne}
 use Rattle.poolsteps.specs.Told.{Sees, claimed_under}
 use Rattle.poolsteps.specs.AtOnce.{unreferred, MakesSweep, MakesStrike, MakesMiss}
-use Rattle.shardpool.specs.declared.reclaim.Reclaimed.{Reclaimed}
-use Rattle.shardpool.specs.Called.{caller_of, Make, Did, Called, end_acts, end_pushed, FitsGeneration, MovedNothing, EndsWithActs, Ends, Tails, TailActs}
+use Rattle.seatcalls.specs.declared.at.Reclaimed.{Reclaimed}
+use Rattle.seatcalls.specs.Called.{caller_of, Make, Did, Called, end_acts, end_pushed, FitsGeneration, MovedNothing, EndsWithActs, Ends, Tails, TailActs}
 use Rattle.shardpool.specs.Clears.{Clears, LooksTwice}
-use Rattle.shardpool.proofs.parts.Calling.{Opened, called-after, acts-behind, clear-marks, clear-misses}
-use Rattle.shardpool.proofs.parts.Standing.{HasLeft, HasClaimed, has-left, has-claimed, lawful}
-use Rattle.shardpool.proofs.parts.Ending.{ends-none, still-acts, ends-won, won-acts}
+use Rattle.seatcalls.proofs.parts.Calling.{Opened, called-after, acts-behind, clear-marks, clear-misses}
+use Rattle.seatcalls.proofs.parts.Standing.{HasLeft, HasClaimed, has-left, has-claimed, lawful}
+use Rattle.seatcalls.proofs.parts.Ending.{ends-none, still-acts, ends-won, won-acts}
 
 -- a call, allowed more looks; and one with a look in front of it
 pub called-most : {S : Type 0} {z : Shape} {call : Call} {looks most : ℕ} {a c : Me S View} → Called z call looks a c → looks ≤ most → Called z call most a c
@@ -66,31 +67,6 @@ pub acts-looked : {S T : Type 0} {z : Shape} {a b : Me S View} (place : ℕ) (ma
 acts-looked {z = z} {a = a} {b = b} place made c reclaimed sees ends =
     let still : the_lane b.0 ≡ the_lane a.0 = ap head_record sees.goes.lanes in
     subst (λ (r : LaneRecord). ActsFrom z place made r c reclaimed) still ends
-
-both-true : (a b : Bool) → a ≡ true → b ≡ true → (a && b) ≡ true
-both-true a b e f = ap (λ (x : Bool). x && b) e ∙ f
-
--- the words of a sweep
-module _ (key : ℕ) where
-  abbrev first : ℕ
-  first = unreferred (generation_of key)
-
-  hit : is_hit key first ≡ true
-  hit = let below = generation_of-lt key in
-      both-true (eqb (generation_in first) (generation_of key)) (eqb (state_in first) 1) (eq-eqb (generation_in first) (generation_of key) (omega arith)) (eq-eqb (state_in first) 1 (omega arith))
-
-  owes : owes_claim (first + 6) ≡ true
-  owes = let below = generation_of-lt key in
-      both-true (eqb (state_in (first + 6)) 3) (eqb (count_in (first + 6)) 1) (eq-eqb (state_in (first + 6)) 3 (omega arith)) (eq-eqb (count_in (first + 6)) 1 (omega arith))
-
-  of : generation_of key ≡ generation_in (first + 6)
-  of = let below = generation_of-lt key in omega arith
-
-  won : first + 2 ≡ claimable (generation_of key)
-  won = omega arith
-
-  present : eqb (state_in (first + 4)) 1 ≡ true
-  present = eq-eqb (state_in (first + 4)) 1 (omega arith)
 
 module _ {S : Type 0} {z : Shape} {key : ℕ} {a b : Me S View} (inside : is_key z key ≡ true) (sweeps : MakesSweep z key a b) where
   abbrev marked : Me S View
@@ -148,27 +124,6 @@ module _ {S : Type 0} {z : Shape} {key : ℕ} {a b : Me S View} (inside : is_key
 
 -- ---- a clear of a key that someone refers to, up to its LEAVE as one operation
 
-both-false : (a b : Bool) → b ≡ false → (a && b) ≡ false
-both-false true b e = e
-both-false false b e = refl
-
-module _ (key word : ℕ) (hits : is_hit key word ≡ true) where
-  here : (generation_in word ≡ generation_of key) × (state_in word ≡ 1)
-  here = let both = and_parts (eqb (generation_in word) (generation_of key)) (eqb (state_in word) 1) hits in
-      (eqb-true (generation_in word) (generation_of key) both.0, eqb-true (state_in word) 1 both.1)
-
-  -- its word isn't that of a key that nobody refers to
-  pub referred-so : word ≢ unreferred (generation_of key) → 1 ≤ count_in word
-  referred-so other = let is = here in
-      dite (ℕ_discrete (count_in word) 0) (λ none. let same : word ≡ unreferred (generation_of key) = omega (arith, is.0, is.1) in absurd (other same)) (λ some. omega arith)
-
-  marks-present : eqb (state_in (word + 4)) 1 ≡ true
-  marks-present = let is = here in eq-eqb (state_in (word + 4)) 1 (omega (arith, is.1))
-
-  owes-nothing : 1 ≤ count_in word → owes_claim (word + 6) ≡ false
-  owes-nothing some = let is = here in
-      both-false (eqb (state_in (word + 6)) 3) (eqb (count_in (word + 6)) 1) (ne_eqb (count_in (word + 6)) 1 (λ one. omega (arith, is.1)))
-
 module _ {S : Type 0} {z : Shape} {key word : ℕ} {a b : Me S View} (inside : is_key z key ≡ true) (hits : is_hit key word ≡ true) (some : 1 ≤ count_in word) (strikes : MakesStrike z key word a b) where
   abbrev mid : Me S View
   mid = strikes.2.0
@@ -201,13 +156,6 @@ module _ {S : Type 0} {z : Shape} {key word : ℕ} {a b : Me S View} (inside : i
       (acts-looked {T = T} (place_of key) (acts.Clear (the_lane a.0).lane key true ∷ []) b.0 None sees (struck-acts T))
 
 -- ---- a clear that missed, as one operation
-
--- what is owed is told by the lowest bits
-pub owes-low : (word : ℕ) → owes_claim ((word + 4) % 2 ^ 64) ≡ owes_claim (word + 4)
-owes-low word =
-    let state : state_in ((word + 4) % 2 ^ 64) ≡ state_in (word + 4) = omega arith in
-    let count : count_in ((word + 4) % 2 ^ 64) ≡ count_in (word + 4) = omega arith in
-    ap (λ (n : ℕ). eqb n 3 && eqb (count_in ((word + 4) % 2 ^ 64)) 1) state ∙ ap (λ (n : ℕ). eqb (state_in (word + 4)) 3 && eqb n 1) count
 
 module _ {S : Type 0} {z : Shape} {key word : ℕ} {a b : Me S View} (inside : is_key z key ≡ true) (miss : is_hit key word ≡ false) (none : owes_claim (word + 4) ≡ false)
     (misses : MakesMiss z key word a b) where

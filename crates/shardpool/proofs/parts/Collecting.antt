@@ -17,7 +17,8 @@ use Rattle.seqpool.specs.Histories.{acts_of}
 use Rattle.seqpool.proofs.Growth.{pool-snoc, legal-rest, after-here}
 use Rattle.poolsteps.specs.declared.view.Stored.{Stored}
 use Rattle.poolsteps.specs.Shares.{room_of}
-use Rattle.steplaws.specs.Facts.{home_in, returner}
+use Rattle.steplaws.specs.Facts.{home_in, lane_home, returner}
+use Rattle.steplaws.proofs.HomePlaces.{lane-part}
 use Rattle.steplaws.specs.Calls.{Call, Caller, aim, next_lane, first_lane, follow_next, take_next, next_step, AreSteps, TakeMakes}
 use Rattle.steplaws.specs.Calls.Call.{Creating}
 use Rattle.steplaws.specs.MomentLaws.{HomeStaysLaw}
@@ -27,11 +28,11 @@ use Rattle.poolsteps.specs.Views.{head_record, the_lane, acts_in, IsOne}
 use Rattle.poolsteps.specs.Told.{Steps, HasPlace}
 use Rattle.poolsteps.specs.Returned.{taken_record, LeadsTo, NoneFrom, Takes}
 use Rattle.poolsteps.proofs.ViewLemmas.{prefix-self, none-behind}
-use Rattle.shardpool.specs.Called.{caller_of, Make, IsLawful}
-use Rattle.shardpool.proofs.parts.Doing.{make-one, make-more}
-use Rattle.shardpool.proofs.parts.Calling.{no-links, steps-more}
-use Rattle.shardpool.specs.Taken.{Went, IsCollected, Collects}
-use Rattle.shardpool.proofs.parts.Going.{all-acts, none-went, went-step, went-more}
+use Rattle.seatcalls.specs.Called.{caller_of, Make, IsLawful}
+use Rattle.seatcalls.proofs.parts.Doing.{make-one, make-more}
+use Rattle.seatcalls.proofs.parts.Calling.{no-links, steps-more}
+use Rattle.seatcalls.specs.Taken.{Went, IsCollected, Collects}
+use Rattle.seatcalls.proofs.parts.Going.{all-acts, none-went, went-step, went-more}
 use Rattle.shardpool.proofs.parts.Chaining.{links_of, chain-leads}
 use Rattle.shardpool.proofs.parts.Returners.{home-returned}
 
@@ -68,7 +69,7 @@ TakesSome z r found now after = (places : List ℕ) × (stored : ℕ → Stored)
     × Steps z kinds.Take found 0 now after (Some (acts.Collect r.lane places)) (taken_record r places stored)
 
 -- each of the places that a lane may collect is one of its shard
-all-here : (z : Shape) (P : Pool) (shard : ℕ) (places : List ℕ) (place : ℕ) → AllHome z P shard places → has places place ≡ true
+pub all-here : (z : Shape) (P : Pool) (shard : ℕ) (places : List ℕ) (place : ℕ) → AllHome z P shard places → has places place ≡ true
     → (is_place z place ≡ true) × (shard_of place ≡ shard)
 all-here z P shard [] place all is = absurd (cc is)
 all-here z P shard (one ∷ more) place all is = dite (ℕ_discrete place one)
@@ -315,12 +316,14 @@ none-collects {z = z} {opened = opened} {before = before} tried seen inside =
     let c : Caller = caller_of z before.0 in
     let last : z.lanes ≢ own = λ e. absurd (omega arith) in
     let history : List Act = before.0.seen in
-    let nowhere : (place : ℕ) → home_in z history own place ≡ false = λ place. ⊎_elim
-    (λ (home : home_in z history own place ≡ true).
-    let told = home-returned z history own place seen.0 home in
+    let nowhere : (place : ℕ) → lane_home z history own place ≡ false = λ place. ⊎_elim
+    (λ (by : lane_home z history own place ≡ true).
+    let parts = lane-part z history own place by in
+    let home = parts.0 in
+    let told : (returner history place < z.lanes) × (returner history place ≢ own) = (parts.1, (home-returned z history own place seen.0 home).1) in
     absurd (tried.others place home (returner history place) told.0 told.1 refl))
-    (λ (isnt : home_in z history own place ≡ false). isnt)
-    (cases_Bool (home_in z history own place)) in record {
+    (λ (isnt : lane_home z history own place ≡ false). isnt)
+    (cases_Bool (lane_home z history own place)) in record {
       steps = tried.steps;
       made = [];
       are = tried.are;

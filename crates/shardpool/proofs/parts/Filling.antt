@@ -19,9 +19,9 @@ use Rattle.poolsteps.specs.declared.view.View.{View}
 use Rattle.poolsteps.specs.Views.{head_record, the_lane, known_of, after_step, with_cell}
 use Rattle.poolsteps.specs.Told.{MayPublish, Publishes}
 use Rattle.poolsteps.specs.ViewLaws.{FillingLaw}
-use Rattle.shardpool.specs.Carried.{Carries}
-use Rattle.shardpool.specs.Called.{caller_of, Did, Called}
-use Rattle.shardpool.proofs.parts.Doing.{cell-next, did-step, did-carries, did-more, make-one}
+use Rattle.seatcalls.specs.Carried.{Carries}
+use Rattle.seatcalls.specs.Called.{caller_of, Did, Called}
+use Rattle.seatcalls.proofs.parts.Doing.{cell-next, did-step, did-carries, did-more, make-one}
 
 -- moves of the place's shares
 module _ {S : Type 0} {z : Shape} {place n : ℕ} {a b : Me S View} (carries : Carries z place n a b) where

@@ -12,9 +12,9 @@ use Rattle.poolsteps.specs.Views.{head_record, the_lane, status_of, known_of, Is
 use Rattle.poolsteps.specs.Told.{GoesOn, HasPlace}
 use Rattle.poolsteps.specs.Returned.{followed_record, Follows}
 use Rattle.poolsteps.proofs.Staying.{place-stays}
-use Rattle.shardpool.specs.Carried.{AreEmptied, Carries}
-use Rattle.shardpool.specs.Taken.{FollowsOut}
-use Rattle.shardpool.proofs.parts.Going.{went-more, went-step, went-carries}
+use Rattle.seatcalls.specs.Carried.{AreEmptied, Carries}
+use Rattle.seatcalls.specs.Taken.{FollowsOut}
+use Rattle.seatcalls.proofs.parts.Going.{went-more, went-step, went-carries}
 
 -- a place that is with the lane still is where it goes on with no act of its own, at the same generation
 pub still-with : {z : Shape} {a b : View} {r : LaneRecord} → GoesOn z a b [] [] r → r.lane ≡ (the_lane a).lane → (place : ℕ)

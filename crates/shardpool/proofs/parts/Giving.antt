@@ -18,9 +18,9 @@ use Rattle.poolsteps.specs.declared.view.View.{View}
 use Rattle.poolsteps.specs.Views.{head_record, the_lane, pushed_in}
 use Rattle.poolsteps.specs.Told.{Steps}
 use Rattle.poolsteps.specs.Returned.{with_return, Links, Pushes}
-use Rattle.shardpool.specs.Called.{caller_of}
-use Rattle.shardpool.proofs.parts.Doing.{same-caller}
-use Rattle.shardpool.proofs.parts.Returning.{link-steps, home-steps, fail-steps, did-return, under-return, did-home, returns-next, link-step, push-step, no-links, pushed-act}
+use Rattle.seatcalls.specs.Called.{caller_of}
+use Rattle.seatcalls.proofs.parts.Doing.{same-caller}
+use Rattle.seatcalls.proofs.parts.Returning.{link-steps, home-steps, fail-steps, did-return, under-return, did-home, returns-next, link-step, push-step, no-links, pushed-act}
 use Rattle.shardpool.specs.Halted.{GoesWithin, GivesWithin}
 use Rattle.shardpool.proofs.parts.Within.{within-after, within-first, within-last}
 

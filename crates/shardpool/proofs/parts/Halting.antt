@@ -13,8 +13,8 @@ use Rattle.steplaws.specs.Calls.Call.{Releasing}
 use Rattle.poolsteps.specs.declared.view.View.{View}
 use Rattle.poolsteps.specs.Views.{the_lane, IsOne}
 use Rattle.poolsteps.specs.Told.{IsIdle}
-use Rattle.shardpool.specs.Called.{caller_of, IsLawful}
-use Rattle.shardpool.proofs.parts.Calling.{Opens, GoesOnAsEnd, life-step, opens-first, opens-more}
+use Rattle.seatcalls.specs.Called.{caller_of, IsLawful}
+use Rattle.seatcalls.proofs.parts.Calling.{Opens, GoesOnAsEnd, life-step, opens-first, opens-more}
 use Rattle.shardpool.specs.Halted.{CalledWithin, LeavesWithin}
 use Rattle.shardpool.proofs.parts.Within.{called-not, called-part, called-on}
 

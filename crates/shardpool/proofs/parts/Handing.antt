@@ -18,10 +18,10 @@ use Rattle.poolsteps.specs.declared.view.View.{View}
 use Rattle.poolsteps.specs.Views.{head_record, the_lane, known_of}
 use Rattle.poolsteps.specs.Told.{Leaves, Sees, WasPublished, IsIdle}
 use Rattle.poolsteps.specs.AtOnce.{unreferred, MakesSweep}
-use Rattle.shardpool.specs.Called.{Tails, TailActs}
+use Rattle.seatcalls.specs.Called.{Tails, TailActs}
 use Rattle.shardpool.specs.Handed.{TookBy, HandsOut}
-use Rattle.shardpool.specs.declared.reclaim.Reclaimed.{Reclaimed}
-use Rattle.shardpool.specs.declared.reclaim.Reclaimed.TheVariants.{Own, Returned, Retired}
+use Rattle.seatcalls.specs.declared.at.Reclaimed.{Reclaimed}
+use Rattle.seatcalls.specs.declared.at.Reclaimed.TheVariants.{Own, Returned, Retired}
 use Rattle.shardpool.proofs.frame.Standing.{published-later}
 use Rattle.shardpool.proofs.parts.AtOnce.{swept, swept-mine, swept-reclaims}
 

@@ -1,5 +1,6 @@
 -- A home place was returned by a lane of the shape, of another shard.
 use Rattle.std.proofs.Common.{◌≡◌, ◌≢◌, ⊎_elim, ℕ, ◌<◌, true, false, List, [], ◌∷◌, ap, sym, ◌∙◌, subst, ne_eqb}
+use Rattle.keybits.specs.Shapes.{callers}
 use Rattle.std.proofs.lemmas.Bool.{cases_Bool}
 use mathlib.Core.Logic.{dite}
 use native.Mathlib.Decide.{ℕ_discrete}
@@ -17,7 +18,7 @@ use Rattle.steplaws.proofs.Acts.{IsLife, life-homes, life-returner}
 module _ (z : Shape) (place : ℕ) where
   -- where the place is home, a lane of the shape returned it, and another than its shard's
   abbrev pub IsReturned : Pool → (ℕ → ℕ) → Type 0
-  IsReturned pool returners = (pool place).phase ≡ home → (returners place < z.lanes) × (returners place ≢ shard_of place)
+  IsReturned pool returners = (pool place).phase ≡ home → (returners place < (callers z)) × (returners place ≢ shard_of place)
 
   module _ (pool : Pool) (returners : ℕ → ℕ) (so : IsReturned pool returners) where
     abbrev Stays : Act → Type 0
@@ -25,19 +26,19 @@ module _ (z : Shape) (place : ℕ) where
 
     by-life : (act : Act) → Allowed z pool act → IsLife act → Stays act
     by-life act ok life is =
-        subst (λ (f : ℕ → ℕ). (f place < z.lanes) × (f place ≢ shard_of place)) (sym (life-returner returners act life))
+        subst (λ (f : ℕ → ℕ). (f place < (callers z)) × (f place ≢ shard_of place)) (sym (life-returner returners act life))
         (so (home-is (pool place).phase (sym (life-homes z pool place act ok life) ∙ ap is_home is)))
 
-    over : (act : Act) → lane_of act < z.lanes → Allowed z pool act → Stays act
+    over : (act : Act) → lane_of act < (callers z) → Allowed z pool act → Stays act
     over (acts.Publish l key content with_ref) inside ok is = by-life (acts.Publish l key content with_ref) ok tt is
     over (acts.Get l key reply) inside ok is = by-life (acts.Get l key reply) ok tt is
     over (acts.Release l key) inside ok is = by-life (acts.Release l key) ok tt is
     over (acts.Clear l key reply) inside ok is = by-life (acts.Clear l key reply) ok tt is
     over (acts.Reclaim l key) inside ok is = by-life (acts.Reclaim l key) ok tt is
     over (acts.Home l one) inside ok is = dite (ℕ_discrete place one)
-        (λ e. subst (λ (r : ℕ). (r < z.lanes) × (r ≢ shard_of place)) (sym (at-here returners one l place e))
+        (λ e. subst (λ (r : ℕ). (r < (callers z)) × (r ≢ shard_of place)) (sym (at-here returners one l place e))
         (inside, λ same. ok.2 (sym (same ∙ ap shard_of e))))
-        (λ n. subst (λ (r : ℕ). (r < z.lanes) × (r ≢ shard_of place)) (sym (at-else returners one l place n))
+        (λ n. subst (λ (r : ℕ). (r < (callers z)) × (r ≢ shard_of place)) (sym (at-else returners one l place n))
         (so (sym (ap (λ (s : Spot). s.phase) (after-else z pool (acts.Home l one) place (ne_eqb place one n))) ∙ is)))
     over (acts.Collect l places) inside ok is = ⊎_elim
         (λ (in_it : has places place ≡ true).
@@ -57,7 +58,7 @@ module _ (z : Shape) (place : ℕ) where
 
 -- a home place of a shard was returned by a lane of the shape, and another than the shard's
 pub home-returned : (z : Shape) (history : List Act) (shard place : ℕ) → IsLegal z history → home_in z history shard place ≡ true
-    → (returner history place < z.lanes) × (returner history place ≢ shard)
+    → (returner history place < (callers z)) × (returner history place ≢ shard)
 home-returned z history shard place legal is =
     let parts = home-parts z history shard place is in
     let bound = returned z place history legal parts.home in

@@ -15,9 +15,9 @@ use Rattle.poolsteps.specs.declared.view.LaneRecord.{LaneRecord}
 use Rattle.poolsteps.specs.declared.view.View.{View}
 use Rattle.poolsteps.specs.Views.{head_record, the_lane, IsOne}
 use Rattle.poolsteps.specs.Told.{claimed_under, Claims}
-use Rattle.shardpool.specs.Called.{caller_of, IsLawful}
-use Rattle.shardpool.proofs.parts.Doing.{life-next, cell-next, did-step, same-caller}
-use Rattle.shardpool.proofs.parts.Ending.{ends-at-leave, ends-at-claim, made_at, claims-so}
+use Rattle.seatcalls.specs.Called.{caller_of, IsLawful}
+use Rattle.seatcalls.proofs.parts.Doing.{life-next, cell-next, did-step, same-caller}
+use Rattle.seatcalls.proofs.parts.Ending.{ends-at-leave, ends-at-claim, made_at, claims-so}
 use Rattle.shardpool.specs.Halted.{GoesWithin, EndsWithin, TailsWithin}
 use Rattle.shardpool.proofs.parts.Within.{within-stop, within-none, within-after, within-first, within-last}
 

@@ -14,11 +14,11 @@ use Rattle.poolsteps.specs.declared.view.LaneRecord.{LaneRecord}
 use Rattle.poolsteps.specs.declared.view.View.{View}
 use Rattle.poolsteps.specs.Views.{the_lane}
 use Rattle.poolsteps.specs.Returned.{rest_of, LeadsTo, Follows, Takes}
-use Rattle.shardpool.specs.Called.{caller_of, Make, IsLawful}
-use Rattle.shardpool.proofs.parts.Doing.{make-one, make-more}
-use Rattle.shardpool.proofs.parts.Calling.{no-links, steps-more}
-use Rattle.shardpool.specs.Taken.{Went}
-use Rattle.shardpool.proofs.parts.Going.{went-step, went-more}
+use Rattle.seatcalls.specs.Called.{caller_of, Make, IsLawful}
+use Rattle.seatcalls.proofs.parts.Doing.{make-one, make-more}
+use Rattle.seatcalls.proofs.parts.Calling.{no-links, steps-more}
+use Rattle.seatcalls.specs.Taken.{Went}
+use Rattle.seatcalls.proofs.parts.Going.{went-step, went-more}
 use Rattle.shardpool.proofs.parts.Chaining.{links_of}
 use Rattle.shardpool.proofs.parts.Collecting.{Tried, TakesSome, take_step, taken-some, none-collects, next-after, take-are, take-make, take-went, take-stepped, steps-some, some-leads, record-after}
 use Rattle.shardpool.specs.Halted.{CalledWithin, FollowsWithin}

@@ -11,11 +11,11 @@ use Rattle.seqpool.specs.declared.act.Act.{Act}
 use Rattle.steplaws.specs.Calls.{Call, Caller, aim, end_next, next_step, key_in, Makes}
 use Rattle.poolsteps.specs.declared.view.View.{View}
 use Rattle.poolsteps.specs.Views.{acts_in, IsOne}
-use Rattle.shardpool.specs.Called.{caller_of, Make, Did, AreEnd, IsLawful}
-use Rattle.shardpool.proofs.parts.Going.{none-acted}
-use Rattle.shardpool.proofs.parts.Doing.{did-more, make-one, make-more, end-more}
-use Rattle.shardpool.proofs.parts.Ending.{did-nothing}
-use Rattle.shardpool.proofs.parts.Calling.{Opens, GoesOnAsEnd, steps-more, end-steps}
+use Rattle.seatcalls.specs.Called.{caller_of, Make, Did, AreEnd, IsLawful}
+use Rattle.seatcalls.proofs.parts.Going.{none-acted}
+use Rattle.seatcalls.proofs.parts.Doing.{did-more, make-one, make-more, end-more}
+use Rattle.seatcalls.proofs.parts.Ending.{did-nothing}
+use Rattle.seatcalls.proofs.parts.Calling.{Opens, GoesOnAsEnd, steps-more, end-steps}
 use Rattle.shardpool.specs.Halted.{CalledWithin, GoesWithin}
 
 -- where no step is left, it ends there or at the limit

@@ -21,11 +21,11 @@ use Rattle.steplaws.specs.Calls.Call.{Getting, Releasing, Clearing}
 use Rattle.poolsteps.specs.declared.view.View.{View}
 use Rattle.poolsteps.specs.Views.{the_lane, acts_in}
 use Rattle.poolsteps.specs.ViewLaws.{references_made}
-use Rattle.shardpool.specs.Called.{caller_of, Make}
+use Rattle.seatcalls.specs.Called.{caller_of, Make}
 use Rattle.shardpool.specs.Tokens.{PoolOf, LaneOf, FillingOf, RefOf}
 use Rattle.shardpool.specs.Lanes.{Owns, Calls, Did, Gets, IsFilling, holds, refs}
 use Rattle.shardpool.specs.Opened.{IsFirstLane, AreFirstLanes}
-use Rattle.shardpool.specs.Places.{held_after}
+use Rattle.seatcalls.specs.Left.{held_after}
 use Rattle.shardpool.specs.Creates.{HandsOut, Gives, GivesNone}
 use Rattle.shardpool.proofs.calls.Ends.{made-append}
 use Rattle.shardpool.proofs.references.Rows.{held-append, either-same}

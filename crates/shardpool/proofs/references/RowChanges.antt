@@ -15,9 +15,9 @@ use Rattle.seqpool.specs.Histories.{PublishedAt, acts_of}
 use Rattle.seqpool.proofs.Ranks.{current-key}
 use Rattle.poolsteps.specs.Share.{Share}
 use Rattle.poolsteps.proofs.shares.HeldContents.{held-current}
-use Rattle.shardpool.specs.declared.reclaim.Reclaimed.{Reclaimed}
-use Rattle.shardpool.specs.declared.reclaim.Reclaimed.TheVariants.{Own, Returned, Retired}
-use Rattle.shardpool.specs.Called.{end_acts}
+use Rattle.seatcalls.specs.declared.at.Reclaimed.{Reclaimed}
+use Rattle.seatcalls.specs.declared.at.Reclaimed.TheVariants.{Own, Returned, Retired}
+use Rattle.seatcalls.specs.Called.{end_acts}
 use Rattle.poolsteps.specs.declared.view.View.{View}
 use Rattle.poolsteps.specs.Views.{the_lane}
 use Rattle.poolsteps.specs.Told.{references_seen}
@@ -25,9 +25,9 @@ use Rattle.poolsteps.specs.Layout.{slot_start}
 use Rattle.poolsteps.proofs.SlotLemmas.{in-row}
 use Rattle.poolsteps.specs.ViewLaws.{references_made}
 use Rattle.shardpool.specs.HeldKeys.{HeldKey}
-use Rattle.shardpool.specs.Places.{held_after}
+use Rattle.seatcalls.specs.Left.{held_after}
 use Rattle.shardpool.specs.LaneStates.{IsHeld, FitsRow, FitsRows}
-use Rattle.shardpool.proofs.frame.Frames.{Passes, OnlyAt}
+use Rattle.seatcalls.proofs.parts.Frames.{Passes, OnlyAt}
 use Rattle.shardpool.proofs.frame.LaneFrames.{passes-refs, onlyat-append, onlyat-get, onlyat-publish, onlyat-release}
 use Rattle.shardpool.proofs.references.Rows.{row-of-refs, row-made, row-none, row-counts, held-passes, rows-set}
 

@@ -5,7 +5,7 @@ use Rattle.std.proofs.lemmas.List.Sums.{sum_by-set}
 use mathlib.Core.Logic.{dite}
 use native.Mathlib.Decide.{ℕ_discrete}
 use Rattle.keybits.specs.declared.shape.Shape.{Shape}
-use Rattle.keybits.specs.Shapes.{IsShape, is_place}
+use Rattle.keybits.specs.Shapes.{callers, IsShape, is_place}
 use Rattle.keybits.specs.Keys.{place_of, generation_of, is_key}
 use Rattle.seqpool.specs.declared.act.Act.{Act}
 use Rattle.seqpool.specs.Pool.{Phase, pool_after, IsLegal}
@@ -23,9 +23,9 @@ use Rattle.poolsteps.specs.Moved.{stored_of}
 use Rattle.poolsteps.specs.Layout.{slot_start}
 use Rattle.poolsteps.proofs.SlotLemmas.{start-injective}
 use Rattle.shardpool.specs.HeldKeys.{HeldKey}
-use Rattle.shardpool.specs.Places.{held_with, held_after}
+use Rattle.seatcalls.specs.Left.{held_with, held_after}
 use Rattle.shardpool.specs.LaneStates.{IsHeld, FitsRow, FitsRows}
-use Rattle.shardpool.proofs.frame.Frames.{Passes, OnlyAt}
+use Rattle.seatcalls.proofs.parts.Frames.{Passes, OnlyAt}
 use Rattle.shardpool.proofs.frame.LaneFrames.{passes-refs, refs-elsewhere}
 use Rattle.shardpool.proofs.frame.KeptPlaces.{published-passes}
 use Rattle.shardpool.proofs.free.Stores.{stands-here}
@@ -99,7 +99,7 @@ module _ {T : Type 0} {content : T → List ℕ} {room : T → ℕ} {z : Shape} 
 
   -- the share that shows the content of a key to which the lane refers is held under it
   pub held-made : {w : View} (key r : ℕ) (share : Share T) → IsLegal z w.seen → 0 < references_seen z w key
-      → share.number ≡ (the_lane w).lane → share.of ≡ z.lanes → status_of (the_lane w) (place_of key) (the_lane w).lane ≡ Emptied
+      → share.number ≡ (the_lane w).lane → share.of ≡ callers z → status_of (the_lane w) (place_of key) (the_lane w).lane ≡ Emptied
       → known_of (the_lane w) (place_of key) ≡ stored_of content room share
       → IsKept (stored_of content room share) r (pool_after z w.seen (place_of key)).phase → IsHeld content room z w (place_of key) (generation_of key) share
   held-made {w = w} key r share legal some number of emptied known kept =

@@ -6,7 +6,7 @@ use Rattle.explanations.proofs.reasons.pool_behind.Goals as goal
 
 pub memory_of-requires : goal.memory_of-requires
 memory_of-requires c =
-    legal-memory c.args.shape c.loop-act.pool.shape (pool_in c.loop-act.pool) c.args.acts.now c.loop-act.act-index c.act-item.result c.in-Err.fault c.requires.legal c.loop-act-test.true c.act-item.is
+    legal-memory c.args.shape c.loop-act.pool.shape (pool_in c.loop-act.pool) c.args.acts.now c.loop-act.act-index c.act-item.result c.in-Err.fault c.requires.narrow.3 c.requires.legal c.loop-act-test.true c.act-item.is
     c.loop-act.invariant.shape c.loop-act.invariant.pool (c.in-Err.ensures {u = tt}).refused
 
 pub loop-act-preserved : goal.loop-act-preserved

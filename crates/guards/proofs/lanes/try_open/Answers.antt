@@ -21,7 +21,8 @@ pub invariant_of-lanes : goal.invariant_of-lanes
 invariant_of-lanes g c =
     let firsts = subst (λ (pool : PoolOf). AreFirstLanes pool c.in-Ok.lanes.items) (sym c.of.ensures) c.in-Ok.ensures.lanes in (
       sym (ap (λ (p : PoolOf). p.shape.lanes) c.of.ensures ∙ ap (λ (s : Shape). s.lanes) c.in-Ok.ensures.pool),
-      first-slots c.of.result.value c.in-Ok.lanes.items c.in_slots.result.items c.in_slots.ensures firsts,
+      first-slots c.of.result.value c.in-Ok.lanes.items c.in_slots.result.items c.in_slots.ensures firsts
+          (ap (λ (p : PoolOf). p.shape.guests) c.of.ensures ∙ (ap (λ (s : Shape). s.guests) c.in-Ok.ensures.pool ∙ c.requires.alone)),
       ok-holds c.with_capacity-2.result (λ v. v.items ≡ []) c.in_ok-row.row c.with_capacity-2.ensures.items c.in_ok-row.ensures.value,
       ok-holds c.with_capacity-2.result (λ v. c.args.shape.lanes ≤ vec_capacity v) c.in_ok-row.row c.with_capacity-2.ensures.capacity c.in_ok-row.ensures.value,
     )
@@ -88,4 +89,4 @@ pub returns-clause-shape : goal.returns-clause-shape
 returns-clause-shape g c = (c.in-Ok.ensures.pool, c.of.ensures)
 
 pub overflow_cast-count : goal.overflow_cast-count
-overflow_cast-count g c = let few = c.requires.lanes.1 in omega (arith, few)
+overflow_cast-count g c = let few = c.requires.shape.lanes.1 in omega (arith, few)

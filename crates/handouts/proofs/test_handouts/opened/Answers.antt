@@ -2,7 +2,7 @@ use Rattle.std.proofs.Common.{◌≡◌, List, [], ◌∷◌, ◌++◌, length, 
 use Rattle.poolsteps.specs.declared.view.View.{View}
 use Rattle.poolsteps.specs.Views.{the_lane}
 use Rattle.shardpool.specs.Opened.{AreFirstLanes}
-use Rattle.shardpool.specs.Places.{held_after}
+use Rattle.seatcalls.specs.Left.{held_after}
 use Rattle.shardpool.specs.Tokens.{LaneOf}
 use Rattle.handouts.proofs.test_handouts.opened.Goals as goal
 

@@ -2,5 +2,5 @@
 use Rattle.lanestore.proofs.Opened.{all-new, all-owned}
 use Rattle.lanestore.proofs.opening.stored.Goals as goal
 
-pub close_lanes-requires : goal.close_lanes-requires
-close_lanes-requires g c = record { owned = all-owned c.args.pool c.args.lanes.items (all-new c.args.pool c.args.lanes.items c.requires) }
+pub close_lanes-requires-clause-owned : goal.close_lanes-requires-clause-owned
+close_lanes-requires-clause-owned g c = all-owned c.args.pool c.args.lanes.items (all-new c.args.pool c.args.lanes.items c.requires.lanes)

@@ -22,8 +22,9 @@ module _ (lanes : List LaneOf) (count : ℕ) where
       ap (λ (l : LaneOf). l.number) one ∙ (is ∙ sym same))
       (λ differs. before i lane (omega (arith, low, differs)) there)
 
-  all-lanes : (pool : PoolOf) → length lanes ≡ count → count ≡ pool.shape.lanes → All (λ lane. Owns pool lane) lanes → AreNumbered count → AreLanes pool lanes
-  all-lanes pool long is own numbered = record {
+  all-lanes : (pool : PoolOf) → pool.shape.guests ≡ 0 → length lanes ≡ count → count ≡ pool.shape.lanes → All (λ lane. Owns pool lane) lanes → AreNumbered count → AreLanes pool lanes
+  all-lanes pool alone long is own numbered = record {
+    alone = alone;
     count = long ∙ is;
     owned = λ index lane at. subst (Owns pool) (get_or_from_slice_get lanes index lane lane at)
         (All-get_or (λ l. Owns pool l) lanes index lane (slice_get_within lanes index lane at) own);
@@ -56,7 +57,7 @@ pub close-requires : goal.close-requires
 close-requires g c =
     let end : c.loop-index.index ≡ c.len-count.result = omega arith in
     record {
-      lanes = all-lanes c.args.lanes.items c.len-count.result c.args.pool (search rules) (search rules) c.requires.owned
+      lanes = all-lanes c.args.lanes.items c.len-count.result c.args.pool c.requires.alone (search rules) (search rules) c.requires.owned
           (subst (AreNumbered c.args.lanes.items c.len-count.result) end c.loop-index.invariant);
     }
 
@@ -71,7 +72,7 @@ returns-clause-some g c =
 pub returns-clause-closes : goal.returns-clause-closes
 returns-clause-closes g c =
     let end : c.loop-index.index ≡ c.len-count.result = omega arith in (
-      all-lanes c.args.lanes.items c.len-count.result c.args.pool (search rules) (search rules) c.requires.owned
+      all-lanes c.args.lanes.items c.len-count.result c.args.pool c.requires.alone (search rules) (search rules) c.requires.owned
           (subst (AreNumbered c.args.lanes.items c.len-count.result) end c.loop-index.invariant),
       c.close.ensures.closes,
     )

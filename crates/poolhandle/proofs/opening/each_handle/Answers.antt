@@ -6,7 +6,7 @@ use Rattle.std.specs.Arc.{arc_value}
 use Rattle.shardpool.specs.Tokens.{LaneOf}
 use Rattle.poolsteps.specs.declared.view.View.{View}
 use Rattle.poolsteps.specs.Views.{the_lane}
-use Rattle.shardpool.specs.Places.{held_after}
+use Rattle.seatcalls.specs.Left.{held_after}
 use Rattle.shardpool.specs.Lanes.{Owns}
 use Rattle.shardpool.specs.Opened.{AreFirstLanes}
 use Rattle.poolhandle.specs.declared.handle.Handle.{Handle}

@@ -5,7 +5,6 @@ use Rattle.shardpool.specs.Lanes.{Owns}
 use Rattle.poolhandle.specs.declared.shared.Shared.{Shared}
 use Rattle.poolhandle.proofs.opening.give_up.Goals as goal
 
-pub close_lanes-requires : goal.close_lanes-requires
-close_lanes-requires c = record {
-  owned = subst (λ (shared : Shared). All (λ (lane : LaneOf). Owns shared.pool lane) c.all_lanes-lanes.result.items) (sym c.in-Some.ensures) c.all_lanes-lanes.ensures.owned;
-}
+pub close_lanes-requires-clause-owned : goal.close_lanes-requires-clause-owned
+close_lanes-requires-clause-owned c =
+    subst (λ (shared : Shared). All (λ (lane : LaneOf). Owns shared.pool lane) c.all_lanes-lanes.result.items) (sym c.in-Some.ensures) c.all_lanes-lanes.ensures.owned

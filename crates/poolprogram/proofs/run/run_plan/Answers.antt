@@ -1,6 +1,7 @@
 -- The lanes that were opened may work, what comes back of them are all lanes of the pool, and the text tells of their workers and of its census.
 use Rattle.std.proofs.Common.{ℕ, List, ◌++◌, sym, ap, ap₂, ◌∙◌, subst}
 use Rattle.std.specs.List.{flat_map}
+use Rattle.keybits.specs.declared.shape.Shape.{Shape}
 use Rattle.shardpool.specs.Tokens.{LaneOf}
 use Rattle.shardpool.specs.Closings.{AreLanes, Closes}
 use Rattle.workers.proofs.Lanes.{may-begin, are-lanes}
@@ -14,7 +15,8 @@ run_workers-requires-clause-may g c lifetimes within =
 pub close-census-requires : goal.close-census-requires
 close-census-requires g c = record {
   lanes = subst (λ (lanes : List LaneOf). AreLanes c.in_ok-pool.pool lanes) (sym c.in_ok-lanes.ensures.lanes)
-      (are-lanes c.in_ok-pool.pool c.in_ok-pool.lanes.items c.in_ok-jobs.jobs.items c.in-Ok.dones.items c.in_ok-pool.ensures.lanes
+      (are-lanes c.in_ok-pool.pool c.in_ok-pool.lanes.items c.in_ok-jobs.jobs.items c.in-Ok.dones.items
+      (ap (λ (shape : Shape). shape.guests) c.in_ok-pool.ensures.shape ∙ c.requires.shape.3) c.in_ok-pool.ensures.lanes
       c.in_ok-jobs.ensures.lanes c.in-Ok.ensures.answers);
 }
 

@@ -1,6 +1,7 @@
 use Rattle.poolsteps.specs.Layout.{spots_at}
+use Rattle.keybits.specs.Shapes.{callers}
 -- The one share of the cell is all of it.
-use Rattle.std.proofs.Common.{◌≡◌, ◌∙◌, ◌<◌, ap, sym, subst}
+use Rattle.std.proofs.Common.{arith, ◌≡◌, ◌∙◌, ◌<◌, ap, sym, subst}
 use Rattle.core.specs.Mem.Slots.{slots_items}
 use Rattle.std.specs.Prelude.{None}
 use Rattle.keybits.specs.Places.{shard_of}
@@ -16,7 +17,7 @@ at : (g : _) (c : After-slot_at-slot g) → c.slot_at-slot.result ≡ slot_index
 at g c = c.slot_at-slot.ensures.slot ∙ ap (slot_index c.args.shape.now c.args.place) c.shard_of.ensures
 
 pub slot_at-slot-requires-clause-lane : goal.slot_at-slot-requires-clause-lane
-slot_at-slot-requires-clause-lane g c = subst (λ n. n < c.args.shape.now.lanes) (sym c.shard_of.ensures) (is_place-parts c.args.shape.now c.args.place c.requires.place).0
+slot_at-slot-requires-clause-lane g c = let low = (is_place-parts c.args.shape.now c.args.place c.requires.place).0 in subst (λ n. n < callers c.args.shape.now) (sym c.shard_of.ensures) (omega (arith, low))
 
 pub lift-requires-clause-share : goal.lift-requires-clause-share
 lift-requires-clause-share g c =
@@ -29,12 +30,12 @@ pub returns-clause-drains : goal.returns-clause-drains
 returns-clause-drains g c =
     let z = c.args.shape.now in
     let place = c.args.place in
-    drains-one (spots_at c.args.directory.ptr c.args.shape.now) z c.requires.shape place c.requires.place c.args.slots.now c.lift.new.slots (shard_of place) c.requires.row (is_place-parts z place c.requires.place).0
+    drains-one (spots_at c.args.directory.ptr c.args.shape.now) z c.requires.shape place c.requires.place c.args.slots.now c.lift.new.slots (shard_of place) c.requires.row (let low = (is_place-parts z place c.requires.place).0 in omega (arith, low))
     (subst (λ i. IsSet i None c.args.slots.now c.lift.new.slots) (at g (goal.at.returns-clause-drains g c).After-slot_at-slot) c.lift.ensures.slots)
 
 pub returns-clause-gone : goal.returns-clause-gone
 returns-clause-gone g c =
     let z = c.args.shape.now in
     let place = c.args.place in
-    empty-one (spots_at c.args.directory.ptr c.args.shape.now) z c.requires.shape place c.requires.place c.args.slots.now c.lift.new.slots (shard_of place) c.requires.row (is_place-parts z place c.requires.place).0
+    empty-one (spots_at c.args.directory.ptr c.args.shape.now) z c.requires.shape place c.requires.place c.args.slots.now c.lift.new.slots (shard_of place) c.requires.row (let low = (is_place-parts z place c.requires.place).0 in omega (arith, low))
     (subst (λ i. IsSet i None c.args.slots.now c.lift.new.slots) (at g (goal.at.returns-clause-gone g c).After-slot_at-slot) c.lift.ensures.slots)

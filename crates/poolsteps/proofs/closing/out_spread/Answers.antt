@@ -1,4 +1,5 @@
 use Rattle.poolsteps.specs.Layout.{spots_at}
+use Rattle.keybits.specs.Shapes.{callers}
 -- The shares are lifted by falling number, and each is merged in.
 use Rattle.std.proofs.Common.{◌≡◌, ℕ, ◌-◌, arith, subst}
 use Rattle.core.specs.Mem.Slots.{slots_items}
@@ -11,10 +12,10 @@ use Rattle.poolsteps.proofs.closing.out_spread.Goals as goal
 pub lift-requires-clause-share : goal.lift-requires-clause-share
 lift-requires-clause-share g c =
     let z = c.args.shape.now in
-    let last : ℕ = z.lanes - 1 in
+    let last : ℕ = (callers z) - 1 in
     let lanes = c.requires.shape.lanes in
     let spread = c.requires.spread in
-    part-some (slots_items c.args.slots.now) (slot_index z c.args.place last) c.slot_at.result (spots_at c.args.directory.ptr c.args.shape.now c.args.place) spread.cell last z.lanes
+    part-some (slots_items c.args.slots.now) (slot_index z c.args.place last) c.slot_at.result (spots_at c.args.directory.ptr c.args.shape.now c.args.place) spread.cell last (callers z)
     c.slot_at.ensures.slot (spread.each last (omega (arith, lanes)))
 
 pub loop-number-init : goal.loop-number-init
@@ -22,7 +23,7 @@ loop-number-init g c =
     let z = c.args.shape.now in
     let lanes = c.requires.shape.lanes in
     let at = c.slot_at.ensures.slot in
-    joined-first (spots_at c.args.directory.ptr c.args.shape.now) z c.requires.shape c.args.place c.requires.place c.args.slots.now c.lift.new.slots (z.lanes - 1) c.lift.result c.of_last-rest.result c.requires.row c.requires.spread
+    joined-first (spots_at c.args.directory.ptr c.args.shape.now) z c.requires.shape c.args.place c.requires.place c.args.slots.now c.lift.new.slots ((callers z) - 1) c.lift.result c.of_last-rest.result c.requires.row c.requires.spread
     (omega (arith, lanes)) (subst (λ i. slice_get (slots_items c.args.slots.now) i ≡ Some (Some c.lift.result)) at c.lift.ensures.share)
     (subst (λ i. IsSet i None c.args.slots.now c.lift.new.slots) at c.lift.ensures.slots) c.of_last-rest.ensures
 
@@ -32,7 +33,7 @@ lift-requires-in-loop-number-clause-share g c =
     let next : ℕ = c.loop-number.number - 1 in
     let some = c.loop-number-test.true in
     let j = c.loop-number.invariant in
-    part-some (slots_items c.loop-number.slots) (slot_index z c.args.place next) c.slot_at-in-loop-number.result (spots_at c.args.directory.ptr c.args.shape.now c.args.place) j.spread.cell next z.lanes
+    part-some (slots_items c.loop-number.slots) (slot_index z c.args.place next) c.slot_at-in-loop-number.result (spots_at c.args.directory.ptr c.args.shape.now c.args.place) j.spread.cell next (callers z)
     c.slot_at-in-loop-number.ensures.slot (part-before (spots_at c.args.directory.ptr c.args.shape.now) z c.requires.shape c.args.place c.requires.place next (omega (arith, some)) j)
 
 pub loop-number-preserved : goal.loop-number-preserved
@@ -61,10 +62,10 @@ lift-requires-clause-full g c = c.requires.row.0
 pub of_last-rest-requires : goal.of_last-rest-requires
 of_last-rest-requires g c =
     let z = c.args.shape.now in
-    let last : ℕ = z.lanes - 1 in
+    let last : ℕ = (callers z) - 1 in
     let lanes = c.requires.shape.lanes in
     let spread = c.requires.spread in
-    let part = part-is (slots_items c.args.slots.now) (slot_index z c.args.place last) (spots_at c.args.directory.ptr c.args.shape.now c.args.place) spread.cell last z.lanes c.lift.result (spread.each last (omega (arith, lanes)))
+    let part = part-is (slots_items c.args.slots.now) (slot_index z c.args.place last) (spots_at c.args.directory.ptr c.args.shape.now c.args.place) spread.cell last (callers z) c.lift.result (spread.each last (omega (arith, lanes)))
     (subst (λ i. slice_get (slots_items c.args.slots.now) i ≡ Some (Some c.lift.result)) c.slot_at.ensures.slot c.lift.ensures.share) in
     omega (arith, lanes, part.1, part.2)
 

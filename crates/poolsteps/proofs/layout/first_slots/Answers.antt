@@ -1,4 +1,5 @@
 use Rattle.std.proofs.Common.{rules, ◌≡◌, ℕ, ◌*◌, ◌+◌, length, ap, ◌∙◌, arith}
+use Rattle.keybits.specs.Shapes.{callers}
 use Rattle.std.proofs.lemmas.List.{length_push}
 use Rattle.poolsteps.proofs.FirstSlots.{none-more, none-first}
 use Rattle.poolsteps.proofs.SlotLemmas.{rows-small}
@@ -19,13 +20,13 @@ loop-preserved g c = let pushed = c.push_reserved.ensures in let before = c.loop
 
 pub returns-clause-count : goal.returns-clause-count
 returns-clause-count g c =
-    let lanes : ℕ = c.args.shape.now.lanes in
-    let end : c.loop.counter ≡ lanes * c.slot_row.result = omega arith in
-    c.loop.invariant.stand ∙ (end ∙ ap (λ (n : ℕ). lanes * n) c.slot_row.ensures)
+    let lanes : ℕ = callers c.args.shape.now in
+    let end : c.loop.counter ≡ c.callers.result * c.slot_row.result = omega arith in
+    c.loop.invariant.stand ∙ (end ∙ (ap (λ (n : ℕ). n * c.slot_row.result) c.callers.ensures ∙ ap (λ (n : ℕ). lanes * n) c.slot_row.ensures))
 
 pub returns-clause-empty : goal.returns-clause-empty
 returns-clause-empty g c = c.loop.invariant.empty
 
 pub overflow_mul-count : goal.overflow_mul-count
 overflow_mul-count g c =
-    let rows = rows-small c.args.shape.now c.args.shape.now.lanes c.slot_row.result c.requires (omega arith) c.slot_row.ensures in omega (arith, rows)
+    let rows = rows-small c.args.shape.now c.callers.result c.slot_row.result c.requires (omega (arith, c.callers.ensures)) c.slot_row.ensures in omega (arith, rows)

@@ -15,3 +15,10 @@ overflow_add-result-2 c =
     let few = (shape_bounds c.args.shape.now c.requires).lanes in
     let square = mul-le c.args.shape.now.lanes c.args.shape.now.lanes 64 64 few few in
     omega (arith, row-small c.args.shape.now c.requires, c.slot_row.ensures, square)
+
+pub overflow_add-result-3 : goal.overflow_add-result-3
+overflow_add-result-3 c =
+    let few = (shape_bounds c.args.shape.now c.requires).lanes in
+    let square = mul-le c.args.shape.now.lanes c.args.shape.now.lanes 64 64 few few in
+    let rows = mul-le c.args.shape.now.lanes c.row_count.result 64 1024 few (omega (arith, c.row_count.ensures, c.requires.pages.1)) in
+    omega (arith, row-small c.args.shape.now c.requires, c.slot_row.ensures, square, rows)

@@ -1,3 +1,4 @@
+use Rattle.std.proofs.Common.{refl}
 use Rattle.seqpool.proofs.ShapeTexts.{shape-of, no-lanes, no-first_page, no-pages, no-last}
 use Rattle.seqpool.proofs.acts_reader.read_numbers.Goals as goal
 
@@ -21,5 +22,5 @@ returns-in_default-read_ending c =
 
 pub returns : goal.returns
 returns c =
-    shape-of _ c.args.text.now c.in-Some.rest.now c.in-Some-read_u32_before.rest.now c.in-Some-read_u32_before-2.rest.now c.in-Some.ensures
+    shape-of _ c.args.text.now c.in-Some.rest.now c.in-Some-read_u32_before.rest.now c.in-Some-read_u32_before-2.rest.now refl c.in-Some.ensures
     c.in-Some-read_u32_before.ensures c.in-Some-read_u32_before-2.ensures c.in-Some-read_ending.ensures

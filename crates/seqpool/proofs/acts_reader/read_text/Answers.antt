@@ -36,3 +36,6 @@ pub returns : goal.returns
 returns c =
     stands c.args.bytes.now c.first_line.result.0.now c.first_line.result.1.now c.in-Some.shape c.in_ok-acts.acts.items
     c.first_line.ensures.line c.in-Some.ensures ((c.in_default-check.ensures {u = tt}).ok.0 refl) (c.in_ok-acts.ensures {u = tt})
+
+pub check-requires : goal.check-requires
+check-requires c = c.in-Some.ensures.0.alone

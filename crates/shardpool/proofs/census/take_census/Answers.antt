@@ -8,14 +8,14 @@ use Rattle.std.proofs.lemmas.Option.{slice_get_within}
 use Rattle.core.specs.Mem.Slots.{slots_items}
 use Rattle.keybits.specs.Places.{number_of}
 use Rattle.poolsteps.specs.Objects.{ObjectsOf}
-use Rattle.shardpool.specs.Marks.{AreFreePlaces, returned_places, Counts}
+use Rattle.shardpool.specs.Marks.{Blanks, AreFreePlaces, returned_places, Counts}
 use Rattle.shardpool.proofs.count.Marks.{blanks-then}
-use Rattle.shardpool.proofs.count.Rounds.{SlotsSoFar, slots-so-far-none, returned-own, unopened-idle, have-cells, slots-more, SoFar, so-far-none, so-far-counts, so-far-room, chain, threads, state-low, count-low, stand-now, so-far-more, all-gone, is-census, all-drained, all-at}
+use Rattle.shardpool.proofs.count.Rounds.{SlotsSoFar, slots-so-far-none, returned-own, unopened-idle, have-cells, slots-more, SoFar, so-far-none, so-far-counts, so-far-room, chain, threads, given, state-low, count-low, stand-now, so-far-more, all-gone, is-census, all-drained, all-at}
 use Rattle.shardpool.proofs.at_close.ReturnedShares.{next-state, state-moves}
 use Rattle.shardpool.proofs.census.take_census.Given.{Over}
 use Rattle.shardpool.specs.Stores.{AreOfShard}
 use Rattle.shardpool.proofs.census.take_census.Goals as goal
-use Rattle.shardpool.proofs.census.take_census.Goals.{In-Some}
+use Rattle.shardpool.proofs.census.take_census.Goals.{In-Some, After-mark_returned}
 
 pub loop-state-init : goal.loop-state-init
 loop-state-init g c = record {
@@ -39,15 +39,28 @@ low : (g : Over) (c : In-Some g) → c.in-Some.state.number < c.args.shape.now.l
 low g c = let q = c.requires.last in
     state-low c.args.shape.now c.requires.shape q.0 q.1 c.args.states.items c.args.words.now c.requires.words q.2 (length c.loop-state.yielded) c.in-Some.state (at g c)
 
-stands : (g : Over) (c : In-Some g) → (first : List ℕ) × (others : ℕ → List ℕ)
-    × AreFreePlaces c.args.shape.now (slots_items c.loop-state.words) c.in-Some.state.number c.in-Some.state.free first others
-stands g c =
-    let z = c.args.shape.now in let q = c.requires.last in let before = c.loop-state in let states = c.args.states.items in let old = c.args.words.now in (
-      chain z c.requires.shape q.0 q.1 states old c.requires.words q.2 (length before.yielded) c.in-Some.state (at g c),
-      threads z c.requires.shape q.0 q.1 states old c.requires.words q.2 (length before.yielded) c.in-Some.state (at g c),
-      stand-now z c.requires.shape q.0 q.1 states old c.requires.words q.2 (length before.yielded) c.in-Some.state (at g c) before.words before.census
-          (before.invariant.so_far q.0 q.1 q.2),
+stands : (g : Over) (c : In-Some g) (opened : ℕ) → opened ≡ c.in-Some.state.pages.opened → (first : List ℕ) × (others : ℕ → List ℕ) × (by_guests : List ℕ)
+    × AreFreePlaces c.args.shape.now (slots_items c.loop-state.words) c.in-Some.state.number opened c.in-Some.state.free first others by_guests
+stands g c opened same =
+    let z = c.args.shape.now in let q = c.requires.last in let before = c.loop-state in let states = c.args.states.items in let old = c.args.words.now in
+    let first = chain z c.requires.shape q.0 q.1 states old c.requires.words q.2 (length before.yielded) c.in-Some.state (at g c) in
+    let others = threads z c.requires.shape q.0 q.1 states old c.requires.words q.2 (length before.yielded) c.in-Some.state (at g c) in
+    let by_guests = given z c.requires.shape q.0 q.1 states old c.requires.words q.2 (length before.yielded) c.in-Some.state (at g c) in (
+      first,
+      others,
+      by_guests,
+      subst (λ (n : ℕ). AreFreePlaces z (slots_items before.words) c.in-Some.state.number n c.in-Some.state.free first others by_guests) (sym same)
+          (stand-now z c.requires.shape q.0 q.1 states old c.requires.words q.2 (length before.yielded) c.in-Some.state (at g c) before.words before.census
+          (before.invariant.so_far q.0 q.1 q.2)),
     )
+
+-- what the marks of the returned places do, by the pages that are opened
+marks : (g : Over) (c : After-mark_returned g) → (first : List ℕ) (others : ℕ → List ℕ) (by_guests : List ℕ)
+    → AreFreePlaces c.args.shape.now (slots_items c.loop-state.words) c.in-Some.state.number c.in-Some.state.pages.opened c.in-Some.state.free first others by_guests
+    → Blanks c.args.shape.now (returned_places c.args.shape.now c.in-Some.state.number first others by_guests) c.loop-state.words c.mark_returned.new.words
+marks g c = λ first others by_guests stand. c.mark_returned.ensures first others by_guests
+    (subst (λ (n : ℕ). AreFreePlaces c.args.shape.now (slots_items c.loop-state.words) c.in-Some.state.number n c.in-Some.state.free first others by_guests)
+    (sym c.opened-opened.ensures.opened) stand)
 
 pub mark_returned-requires-clause-shard : goal.mark_returned-requires-clause-shard
 mark_returned-requires-clause-shard g c = low g (goal.at.mark_returned-requires-clause-shard g c).In-Some
@@ -56,13 +69,13 @@ pub mark_returned-requires-clause-row : goal.mark_returned-requires-clause-row
 mark_returned-requires-clause-row g c = let q = c.requires.last in (c.loop-state.invariant.so_far q.0 q.1 q.2).blanks.row
 
 pub mark_returned-requires-clause-free : goal.mark_returned-requires-clause-free
-mark_returned-requires-clause-free g c = stands g (goal.at.mark_returned-requires-clause-free g c).In-Some
+mark_returned-requires-clause-free g c = stands g (goal.at.mark_returned-requires-clause-free g c).In-Some c.opened-opened.result c.opened-opened.ensures.opened
 
 pub out_cells-requires-clause-shard : goal.out_cells-requires-clause-shard
 out_cells-requires-clause-shard g c = low g (goal.at.out_cells-requires-clause-shard g c).In-Some
 
 pub out_cells-requires-clause-words : goal.out_cells-requires-clause-words
-out_cells-requires-clause-words g c = let free = stands g (goal.at.out_cells-requires-clause-words g c).In-Some in (c.mark_returned.ensures free.0 free.1 free.2).row
+out_cells-requires-clause-words g c = let free = stands g (goal.at.out_cells-requires-clause-words g c).In-Some c.opened-opened.result c.opened-opened.ensures.opened in (c.mark_returned.ensures free.0 free.1 free.2 free.3).row
 
 pub out_cells-requires-clause-row : goal.out_cells-requires-clause-row
 out_cells-requires-clause-row g c = let q = c.requires.last in (c.loop-state.invariant.slots q.0 q.1 q.2).row
@@ -74,7 +87,7 @@ out_cells-requires-clause-cells g c =
     let so_far = before.invariant.so_far q.0 q.1 q.2 in
     have-cells z c.requires.shape q.0 q.1 states old c.requires.words q.2 (length before.yielded) c.in-Some.state here before.words before.census so_far c.mark_returned.new.words
     (returned-own z c.requires.shape q.0 q.1 states old c.requires.words q.2 (length before.yielded) c.in-Some.state here before.words before.census so_far c.mark_returned.new.words
-    c.mark_returned.ensures) q.3 (before.invariant.slots q.0 q.1 q.2)
+    (marks g (goal.at.out_cells-requires-clause-cells g c).After-mark_returned)) q.3 (before.invariant.slots q.0 q.1 q.2)
 
 pub out_cells-requires-clause-idle : goal.out_cells-requires-clause-idle
 out_cells-requires-clause-idle g c = λ place inside of_shard unopened.
@@ -84,7 +97,7 @@ out_cells-requires-clause-idle g c = λ place inside of_shard unopened.
     let same = c.opened-opened.ensures.opened in
     unopened-idle z c.requires.shape q.0 q.1 states old c.requires.words q.2 (length before.yielded) c.in-Some.state here before.words before.census so_far c.mark_returned.new.words
     (returned-own z c.requires.shape q.0 q.1 states old c.requires.words q.2 (length before.yielded) c.in-Some.state here before.words before.census so_far c.mark_returned.new.words
-    c.mark_returned.ensures) place inside of_shard (omega (arith, unopened, same))
+    (marks g (goal.at.out_cells-requires-clause-idle g c).After-mark_returned)) place inside of_shard (omega (arith, unopened, same))
 
 -- its rights
 rights : (g : Over) (c : In-Some g) → (c.in-Some.state.objects.directory ≡ c.args.directory.ptr) × AreOfShard c.args.shape.now c.in-Some.state.number c.in-Some.state.objects
@@ -103,10 +116,10 @@ push_reserved-requires g c =
     omega (arith, low, kept, room, stand)
 
 pub mark_list-requires-clause-row : goal.mark_list-requires-clause-row
-mark_list-requires-clause-row g c = let free = stands g (goal.at.mark_list-requires-clause-row g c).In-Some in (c.mark_returned.ensures free.0 free.1 free.2).row
+mark_list-requires-clause-row g c = let free = stands g (goal.at.mark_list-requires-clause-row g c).In-Some c.opened-opened.result c.opened-opened.ensures.opened in (c.mark_returned.ensures free.0 free.1 free.2 free.3).row
 
 pub mark_list-requires-clause-own : goal.mark_list-requires-clause-own
-mark_list-requires-clause-own g c = (stands g (goal.at.mark_list-requires-clause-own g c).In-Some).2.listed
+mark_list-requires-clause-own g c = (stands g (goal.at.mark_list-requires-clause-own g c).In-Some c.opened-opened.result c.opened-opened.ensures.opened).3.listed
 
 pub count_shard-requires-clause-shard : goal.count_shard-requires-clause-shard
 count_shard-requires-clause-shard g c = low g (goal.at.count_shard-requires-clause-shard g c).In-Some
@@ -130,8 +143,8 @@ loop-state-preserved g c =
           (so-far-more z c.requires.shape history lanes states old c.requires.words last (length before.yielded) c.in-Some.state
           (at g (goal.at.loop-state-preserved g c).In-Some) before.words before.census
           (before.invariant.so_far history lanes last) c.mark_list.new.words c.count_shard.new.census
-          (λ first others stand. blanks-then z (returned_places z c.in-Some.state.number first others) (map number_of c.in-Some.state.free.own) before.words c.mark_returned.new.words
-          c.mark_list.new.words (c.mark_returned.ensures first others stand) c.mark_list.ensures.marks)
+          (λ first others by_guests stand. blanks-then z (returned_places z c.in-Some.state.number first others by_guests) (map number_of c.in-Some.state.free.own) before.words c.mark_returned.new.words
+          c.mark_list.new.words (marks g (goal.at.loop-state-preserved g c).After-mark_returned first others by_guests stand) c.mark_list.ensures.marks)
           (subst (λ (n : ℕ). Counts z c.in-Some.state.number n (slots_items c.mark_list.new.words) before.census c.count_shard.new.census) c.opened-opened.ensures.opened c.count_shard.ensures));
       slots = λ history lanes last.
           let here = at g (goal.at.loop-state-preserved g c).In-Some in
@@ -140,7 +153,7 @@ loop-state-preserved g c =
           (slots-more z c.requires.shape history lanes states old c.requires.words last (length before.yielded) c.in-Some.state here before.words before.census so_far
           c.mark_returned.new.words
           (returned-own z c.requires.shape history lanes states old c.requires.words last (length before.yielded) c.in-Some.state here before.words before.census so_far
-          c.mark_returned.new.words c.mark_returned.ensures) (before.invariant.slots history lanes last) c.out_cells.new.slots c.out_cells.ensures.drains);
+          c.mark_returned.new.words (marks g (goal.at.loop-state-preserved g c).After-mark_returned)) (before.invariant.slots history lanes last) c.out_cells.new.slots c.out_cells.ensures.drains);
       states = state-moves states before.yielded (into_iter_items before.state-iterator) (into_iter_items c.next.new.self) c.in-Some.state before.invariant.states c.in-Some.ensures.steps.0;
       rights =
           let P : ObjectsOf g.row.T.Denot → Type 0 = λ objects. objects.directory ≡ c.args.directory.ptr in

@@ -5,8 +5,8 @@ use Rattle.keybits.specs.Words.{generation_in, state_in}
 use Rattle.seqpool.specs.declared.act.Act.TheVariants as acts
 use Rattle.steplaws.specs.Calls.Call.{Clearing}
 use Rattle.poolsteps.specs.Grids.{SameSeat}
-use Rattle.shardpool.proofs.parts.Calling.{Opens, Opened, enter-step, called-after, acts-behind, life-under, clear-entered, clear-misses, clear-marks}
-use Rattle.shardpool.proofs.parts.Standing.{HasLeft, has-left, at-same, left-at, left-owes, lawful}
+use Rattle.seatcalls.proofs.parts.Calling.{Opens, Opened, enter-step, called-after, acts-behind, life-under, clear-entered, clear-misses, clear-marks}
+use Rattle.seatcalls.proofs.parts.Standing.{HasLeft, has-left, at-same, left-at, left-owes, lawful}
 use Rattle.shardpool.proofs.parts.Handing.{hands-behind, hands-after, undone-mine}
 use Rattle.shardpool.proofs.clear.clear_by_steps.Given.{Over}
 use Rattle.shardpool.proofs.clear.clear_by_steps.Goals as goal

@@ -2,10 +2,11 @@ use Rattle.std.proofs.Common.{◌≡◌, inl, ℕ, Some, ap, sym, ◌∙◌, sub
 use Rattle.keybits.specs.Keys.{place_of, generation_of}
 use Rattle.poolsteps.specs.AtOnce.{unreferred}
 use Rattle.poolsteps.specs.Layout.{spots_at}
-use Rattle.shardpool.specs.Called.{Tails, TailActs, IsReclaimed, StandsAt}
-use Rattle.shardpool.proofs.parts.Standing.{at-own, at-same}
+use Rattle.seatcalls.specs.Called.{Tails, TailActs, IsReclaimed, StandsAt}
+use Rattle.seatcalls.proofs.parts.Standing.{at-own, at-same}
 use Rattle.shardpool.proofs.parts.Handing.{hands-none, hands-behind, hands-after, hands-swept, sees-mine}
-use Rattle.shardpool.proofs.parts.AtOnce.{called-most, called-looked, owes-low, referred-so, missed-called, missed-acts, struck-called, struck-looked, struck-mine, missed-mine, swept, swept-held, swept-lane, swept-under, swept-pushed, swept-called, swept-acts}
+use Rattle.seatcalls.proofs.parts.SweptWords.{owes-low, referred-so}
+use Rattle.shardpool.proofs.parts.AtOnce.{called-most, called-looked, missed-called, missed-acts, struck-called, struck-looked, struck-mine, missed-mine, swept, swept-held, swept-lane, swept-under, swept-pushed, swept-called, swept-acts}
 use Rattle.shardpool.proofs.clear.try_clear.Goals as goal
 
 -- ---- the SWEEP found what it expects

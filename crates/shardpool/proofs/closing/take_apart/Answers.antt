@@ -74,8 +74,8 @@ push_reserved-requires-3 g c =
     let stand = c.loop-lane.states.ok.0 in
     omega (arith, low, long, room, stand)
 
-pub returns : goal.returns
-returns g c =
+pub returns-clause-parted : goal.returns-clause-parted
+returns-clause-parted g c =
     let was = c.loop-lane.invariant in
     let gives = c.into_iter-lane-iterator.ensures.into_iter_gives in
     let none : into_iter_items c.loop-lane.lane-iterator ≡ [] = nil_from_length (into_iter_items c.loop-lane.lane-iterator) (sym was.rest ∙ c.in-None.ensures.steps.0) in
@@ -86,3 +86,6 @@ returns g c =
     subst (λ (list : List LaneOf). AreParted g.T.Clear.content g.T.Clear.room list c.push_reserved-2.new.self.items c.push_reserved-3.new.self.items) whole
     (one-parted g.T.Clear.content g.T.Clear.room c.push_reserved-2.new.self.items c.push_reserved-3.new.self.items c.in-Some.last c.taken_apart-hand.result.0 c.taken_apart-hand.result.1
     was.parted c.taken_apart-hand.ensures c.push_reserved-2.ensures.items c.push_reserved-3.ensures.items)
+
+pub returns-clause-room : goal.returns-clause-room
+returns-clause-room g c = rw c.push_reserved-2.ensures.capacity c.loop-lane.invariant.hands

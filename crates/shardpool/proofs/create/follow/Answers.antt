@@ -1,4 +1,4 @@
-use Rattle.std.proofs.Common.{ap, sym, ◌∙◌}
+use Rattle.std.proofs.Common.{arith, ap, sym, ◌∙◌}
 use Rattle.seqpool.specs.Pool.{with}
 use Rattle.shardpool.proofs.parts.Following.{followed-has, followed-one, followed-with, follows-out}
 use Rattle.shardpool.proofs.create.follow.Goals as goal
@@ -8,7 +8,7 @@ take_resting-requires-clause-may g c =
     let followed = c.follow-link.ensures in record {
       hand = (followed.hand.0 ∙ c.requires.hand.0, followed-one followed.follows);
       spot = c.requires.spot;
-      below = c.requires.lane.1;
+      below = (let low = c.requires.lane.1 in omega (arith, low));
       place = followed-has followed.follows c.args.spot.place (c.requires.place ∙ ap with c.requires.lane.0);
     }
 

@@ -1,6 +1,6 @@
 use Rattle.std.proofs.Common.{inr, false, ◌∙◌}
 use Rattle.shardpool.proofs.parts.Handing.{hands-behind, undone-mine}
-use Rattle.shardpool.proofs.parts.Standing.{has-left}
+use Rattle.seatcalls.proofs.parts.Standing.{has-left}
 use Rattle.shardpool.proofs.get.end_miss.Goals as goal
 
 pub leave-left-requires-clause-may : goal.leave-left-requires-clause-may

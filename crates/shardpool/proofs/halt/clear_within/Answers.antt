@@ -3,12 +3,12 @@ use Rattle.keybits.specs.Words.{state_in}
 use Rattle.seqpool.specs.declared.act.Act.TheVariants as acts
 use Rattle.poolsteps.specs.Views.{the_lane}
 use Rattle.steplaws.specs.Calls.Call.{Clearing}
-use Rattle.shardpool.specs.Called.{caller_of}
-use Rattle.shardpool.proofs.parts.Calling.{Opens, enter-step, mark-step, life-under, clear-missed, clear-follows, clear-entered, clear-marked, clear-ends}
+use Rattle.seatcalls.specs.Called.{caller_of}
+use Rattle.seatcalls.proofs.parts.Calling.{Opens, enter-step, mark-step, life-under, clear-missed, clear-follows, clear-entered, clear-marked, clear-ends}
 use Rattle.shardpool.specs.Halted.{CalledWithin}
 use Rattle.shardpool.proofs.parts.Within.{called-not, called-part}
 use Rattle.shardpool.proofs.parts.Halting.{called-undoes}
-use Rattle.shardpool.proofs.parts.Standing.{at-same}
+use Rattle.seatcalls.proofs.parts.Standing.{at-same}
 use Rattle.shardpool.proofs.halt.clear_within.Goals as goal
 
 pub returns-then-limit-eq0-clause-called : goal.returns-then-limit-eq0-clause-called

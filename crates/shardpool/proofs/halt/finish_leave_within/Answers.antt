@@ -1,7 +1,7 @@
 use Rattle.std.proofs.Common.{refl, sym, ◌∙◌, arith}
-use Rattle.shardpool.proofs.parts.Ending.{owes-none, owes-some}
+use Rattle.seatcalls.proofs.parts.Ending.{owes-none, owes-some}
 use Rattle.shardpool.proofs.parts.Settling.{settles-not, settles-none, settles-lost, settles-claim, settles-won}
-use Rattle.shardpool.proofs.parts.Standing.{HasClaimed, has-claimed, at-same, lawful, owes-now}
+use Rattle.seatcalls.proofs.parts.Standing.{HasClaimed, has-claimed, at-same, lawful, owes-now}
 use Rattle.shardpool.proofs.halt.finish_leave_within.Goals as goal
 
 pub returns-then-limit-eq0-clause-ends : goal.returns-then-limit-eq0-clause-ends

@@ -2,11 +2,12 @@ use Rattle.std.proofs.Common.{◌∷◌, [], None, inr, sym, ◌∙◌, false, r
 use Rattle.seqpool.specs.declared.act.Act.TheVariants as acts
 use Rattle.steplaws.specs.Calls.Call.{Getting}
 use Rattle.poolsteps.specs.Views.{the_lane}
-use Rattle.shardpool.specs.Called.{caller_of}
-use Rattle.shardpool.proofs.parts.Calling.{Opens, enter-step, life-under, get-entered, get-ends, get-missed, get-follows}
+use Rattle.steplaws.proofs.Lives.{most-lane}
+use Rattle.seatcalls.specs.Called.{caller_of}
+use Rattle.seatcalls.proofs.parts.Calling.{Opens, enter-step, life-under, get-entered, get-ends, get-missed, get-follows}
 use Rattle.shardpool.proofs.parts.Within.{called-not, called-whole}
 use Rattle.shardpool.proofs.parts.Halting.{called-undoes}
-use Rattle.shardpool.proofs.parts.Standing.{at-same}
+use Rattle.seatcalls.proofs.parts.Standing.{at-same}
 use Rattle.shardpool.proofs.halt.get_within.Goals as goal
 
 pub returns-then-limit-eq0-clause-called : goal.returns-then-limit-eq0-clause-called
@@ -33,7 +34,7 @@ returns-then-limit-eq0-clause-hand g c = (refl, refl)
 
 pub enter-found-requires : goal.enter-found-requires
 enter-found-requires g c =
-    record { hand = c.requires.call.act.hand; spot = c.requires.call.act.at.spot; key = c.requires.key; idle = c.requires.call.idle; room = λ _. c.requires.room }
+    record { hand = c.requires.call.act.hand; spot = c.requires.call.act.at.spot; key = c.requires.key; idle = c.requires.call.idle; room = λ _. most-lane c.args.grid.now.shape (the_lane c.args.hand.now.me.0).lane _ (let low = c.requires.call.act.at.below in let own = c.requires.call.act.at.lane in omega (arith, low, own)) c.requires.room }
 
 pub leave_within-requires : goal.leave_within-requires
 leave_within-requires g c =

@@ -1,6 +1,6 @@
 use Rattle.std.proofs.Common.{None, Some, true, false, sym, ◌∙◌, arith}
-use Rattle.shardpool.proofs.parts.Returning.{linked-rests, rests-again}
-use Rattle.shardpool.proofs.parts.Standing.{IsReturning, linked-returning, failed-returning, then-returning, to-return, first-return, aims-first, aims-again}
+use Rattle.seatcalls.proofs.parts.Returning.{linked-rests, rests-again}
+use Rattle.seatcalls.proofs.parts.Standing.{IsReturning, linked-returning, failed-returning, then-returning, to-return, first-return, aims-first, aims-again}
 use Rattle.shardpool.proofs.parts.Giving.{gives-link, gives-home, gives-failed, gives-again, gives-last}
 use Rattle.shardpool.proofs.halt.give_home_within.Goals as goal
 use Rattle.shardpool.proofs.halt.give_home_within.Goals.{then-found-top-via-then-found-top, then-found-top-via-else-found-top+then-limit-eq2}

@@ -1,6 +1,6 @@
 use Rattle.std.proofs.Common.{ℕ, ◌-◌, ◌∙◌, refl, inl, inr, subst, arith}
 use Rattle.shardpool.specs.Halted.{EndsWithin}
-use Rattle.shardpool.proofs.parts.Standing.{HasLeft, has-left, left-at, left-owes, lawful}
+use Rattle.seatcalls.proofs.parts.Standing.{HasLeft, has-left, left-at, left-owes, lawful}
 use Rattle.shardpool.proofs.halt.leave_within.Goals as goal
 
 pub returns-then-limit-eq0-clause-leaves : goal.returns-then-limit-eq0-clause-leaves

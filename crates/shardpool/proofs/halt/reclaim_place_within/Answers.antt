@@ -1,11 +1,11 @@
 use Rattle.std.proofs.Common.{refl, ◌≤◌, ◌+◌, ◌∷◌, [], ℕ, sym, ap, ◌∙◌, arith}
 use Rattle.keybits.specs.declared.shape.Shape.{Shape}
 use Rattle.steplaws.specs.Calls.{is_claimed}
-use Rattle.shardpool.proofs.parts.Moves.{carries-more}
-use Rattle.shardpool.specs.Called.{caller_of}
-use Rattle.shardpool.proofs.parts.Doing.{did-carries}
-use Rattle.shardpool.proofs.parts.Ending.{caller-still, room-still, ends-at-last, ends-at-own}
-use Rattle.shardpool.proofs.parts.Standing.{at-same, returns-away, stands-in}
+use Rattle.seatcalls.proofs.parts.Moves.{carries-more}
+use Rattle.seatcalls.specs.Called.{caller_of}
+use Rattle.seatcalls.proofs.parts.Doing.{did-carries}
+use Rattle.seatcalls.proofs.parts.Ending.{caller-still, room-still, ends-at-last, ends-at-own}
+use Rattle.seatcalls.proofs.parts.Standing.{at-same, returns-away, stands-in}
 use Rattle.shardpool.proofs.parts.Within.{within-none, within-moves}
 use Rattle.shardpool.proofs.halt.reclaim_place_within.Goals as goal
 use Rattle.shardpool.proofs.halt.reclaim_place_within.Goals.{then-generation-grid-via-then-generation-grid, then-generation-grid-via-else-generation-grid+then-shard_of-at}
@@ -53,7 +53,7 @@ returns-then-generation-grid-clause-hand g c = (refl, refl)
 pub take_cell-whole-requires : goal.take_cell-whole-requires
 take_cell-whole-requires g c =
     let act = c.requires.act in record {
-      may = record { hand = act.hand; spot = act.at.spot; below = act.at.below; place = c.requires.place.0 };
+      may = record { hand = act.hand; spot = act.at.spot; below = (let low = act.at.below in omega (arith, low)); place = c.requires.place.0 };
       bare = act.bare;
       slots = c.requires.place.1;
     }
@@ -63,7 +63,7 @@ rest_cell-requires g c =
     let act = c.requires.act in
     let took = c.take_cell-whole.ensures in
     let moves = took.moves in record {
-      may = record { hand = (moves.hand.0.0 ∙ act.hand.0, moves.hand.1); spot = act.at.spot; below = act.at.below; place = moves.place };
+      may = record { hand = (moves.hand.0.0 ∙ act.hand.0, moves.hand.1); spot = act.at.spot; below = (let low = act.at.below in omega (arith, low)); place = moves.place };
       slots = took.slots;
       at = took.cell.2;
     }

@@ -9,7 +9,7 @@ use Rattle.shardpool.proofs.opening.first_state.Goals as goal
 
 -- the shape of a lane's lists is within its limits too
 is-shape : (z : Shape) → IsShape z → IsShape (shape_of z.first_page z.pages)
-is-shape z shape = record { lanes = (omega arith, omega arith); first_page = shape.first_page; pages = shape.pages; generations = omega arith; tag = omega arith }
+is-shape z shape = record { lanes = (omega arith, omega arith); first_page = shape.first_page; pages = shape.pages; generations = omega arith; tag = omega arith; guests = omega arith }
 
 -- ---- memory was refused
 

@@ -35,10 +35,10 @@ returns-in_default-clause-lanes g c = tt
 -- ---- the shape is within its limits
 
 pub slot_row-requires : goal.slot_row-requires
-slot_row-requires g c = c.requires
+slot_row-requires g c = c.requires.shape
 
 pub parts_of-requires : goal.parts_of-requires
-parts_of-requires g c = c.requires
+parts_of-requires g c = c.requires.shape
 
 -- ---- a new directory has given nothing away
 

@@ -2,9 +2,9 @@ use Rattle.std.proofs.Common.{ℕ, ◌≤◌, ◌∙◌, subst, arith}
 use Rattle.keybits.specs.declared.shape.Shape.{Shape}
 use Rattle.poolsteps.specs.Told.{MayRenew}
 use Rattle.poolsteps.specs.Moved.{stored_of}
-use Rattle.shardpool.specs.Carried.{Carries}
+use Rattle.seatcalls.specs.Carried.{Carries}
 use Rattle.shardpool.proofs.parts.Filling.{still-may, publish-called, room-published}
-use Rattle.shardpool.proofs.parts.Standing.{spot-own, publish-place}
+use Rattle.seatcalls.proofs.parts.Standing.{spot-own, publish-place}
 use Rattle.shardpool.proofs.publish.downgrade.Goals as goal
 
 pub spread_others-share-requires-clause-may : goal.spread_others-share-requires-clause-may
@@ -12,7 +12,7 @@ spread_others-share-requires-clause-may g c =
     let at = c.requires.spot.place_is in record {
       hand = c.requires.hand;
       spot = spot-own c.requires.spot;
-      below = c.requires.lane.1;
+      below = (let low = c.requires.lane.1 in omega (arith, low));
       place = publish-place c.args.grid.now.shape c.args.hand.now.me.0 c.args.key c.args.spot.place at c.requires.may;
     }
 

@@ -3,9 +3,9 @@ use Rattle.keybits.specs.declared.shape.Shape.{Shape}
 use Rattle.poolsteps.specs.declared.view.Status.TheVariants.{Untouched, Emptied}
 use Rattle.poolsteps.specs.Layout.{spots_at}
 use Rattle.poolsteps.specs.Views.{the_lane, status_of, known_of}
-use Rattle.shardpool.specs.Carried.{Carries, ShowsCell}
+use Rattle.seatcalls.specs.Carried.{Carries, ShowsCell}
 use Rattle.shardpool.proofs.parts.Filling.{still-may, publish-called, room-published}
-use Rattle.shardpool.proofs.parts.Standing.{spot-own, publish-place, publish-left, publish-known}
+use Rattle.seatcalls.proofs.parts.Standing.{spot-own, publish-place, publish-left, publish-known}
 use Rattle.shardpool.proofs.publish.publish.Goals as goal
 
 pub spread_cell-requires : goal.spread_cell-requires
@@ -14,7 +14,7 @@ spread_cell-requires g c =
       may = record {
         hand = c.requires.hand;
         spot = spot-own c.requires.spot;
-        below = c.requires.lane.1;
+        below = (let low = c.requires.lane.1 in omega (arith, low));
         place = publish-place c.args.grid.now.shape c.args.hand.now.me.0 c.args.key c.args.spot.place at c.requires.may;
       };
       bare = c.requires.bare;

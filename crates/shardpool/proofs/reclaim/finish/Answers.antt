@@ -2,7 +2,7 @@ use Rattle.std.proofs.Common.{ℕ, refl, ap, sym, ◌∙◌}
 use Rattle.steplaws.specs.StepLaws.{owed_after}
 use Rattle.poolsteps.specs.declared.grid.Spot.{Spot}
 use Rattle.shardpool.proofs.calls.Ends.{keeps-act}
-use Rattle.shardpool.proofs.parts.Standing.{at-own}
+use Rattle.seatcalls.proofs.parts.Standing.{at-own}
 use Rattle.shardpool.proofs.reclaim.finish.Goals as goal
 
 pub finish_leave-reclaimed-requires : goal.finish_leave-reclaimed-requires

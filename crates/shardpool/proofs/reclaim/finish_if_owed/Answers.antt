@@ -1,6 +1,6 @@
 use Rattle.std.proofs.Common.{None, refl, sym, ◌∙◌}
 use Rattle.keybits.specs.Keys.{place_of}
-use Rattle.shardpool.proofs.parts.Ending.{ends-none, still-acts}
+use Rattle.seatcalls.proofs.parts.Ending.{ends-none, still-acts}
 use Rattle.shardpool.proofs.parts.Handing.{hands-none}
 use Rattle.shardpool.proofs.reclaim.finish_if_owed.Goals as goal
 

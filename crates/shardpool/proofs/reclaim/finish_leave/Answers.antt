@@ -1,9 +1,9 @@
 use Rattle.std.proofs.Common.{List, refl, sym, ap, ◌∙◌}
 use Rattle.poolsteps.specs.declared.view.LaneRecord.{LaneRecord}
 use Rattle.poolsteps.specs.Views.{head_record}
-use Rattle.shardpool.proofs.parts.Ending.{owes-none, owes-some, ends-none, ends-lost, ends-won, still-acts, lost-acts, won-acts}
+use Rattle.seatcalls.proofs.parts.Ending.{owes-none, owes-some, ends-none, ends-lost, ends-won, still-acts, lost-acts, won-acts}
 use Rattle.shardpool.proofs.parts.Handing.{hands-none, hands-still, hands-won}
-use Rattle.shardpool.proofs.parts.Standing.{HasClaimed, has-claimed, at-same, owes-now}
+use Rattle.seatcalls.proofs.parts.Standing.{HasClaimed, has-claimed, at-same, owes-now}
 use Rattle.shardpool.proofs.reclaim.finish_leave.Goals as goal
 
 pub returns-in_err-generation-clause-ends : goal.returns-in_err-generation-clause-ends

@@ -1,6 +1,6 @@
 use Rattle.std.proofs.Common.{None, Some, true, false, sym, ◌∙◌}
-use Rattle.shardpool.proofs.parts.Returning.{linked-rests, rests-again, gives-once, gives-twice}
-use Rattle.shardpool.proofs.parts.Standing.{IsReturning, linked-returning, failed-returning, then-returning, to-return, first-return, aims-first, aims-again, again-finds, made-home}
+use Rattle.seatcalls.proofs.parts.Returning.{linked-rests, rests-again, gives-once, gives-twice}
+use Rattle.seatcalls.proofs.parts.Standing.{IsReturning, linked-returning, failed-returning, then-returning, to-return, first-return, aims-first, aims-again, again-finds, made-home}
 use Rattle.shardpool.proofs.reclaim.give_home.Goals as goal
 
 pub link-requires : goal.link-requires

@@ -1,11 +1,11 @@
 use Rattle.std.proofs.Common.{◌≤◌, ◌+◌, ◌∷◌, [], ℕ, sym, ap, ◌∙◌, arith}
 use Rattle.keybits.specs.declared.shape.Shape.{Shape}
 use Rattle.steplaws.specs.Calls.{is_claimed}
-use Rattle.shardpool.proofs.parts.Moves.{carries-more}
-use Rattle.shardpool.proofs.parts.Standing.{at-same, returns-away, stands-in}
-use Rattle.shardpool.specs.Called.{caller_of}
-use Rattle.shardpool.proofs.parts.Doing.{did-carries, goes-none, goes-moves, goes-most}
-use Rattle.shardpool.proofs.parts.Ending.{caller-still, room-still, ends-at-last, ends-at-own, none-at-last, none-at-own}
+use Rattle.seatcalls.proofs.parts.Moves.{carries-more}
+use Rattle.seatcalls.proofs.parts.Standing.{at-same, returns-away, stands-in}
+use Rattle.seatcalls.specs.Called.{caller_of}
+use Rattle.seatcalls.proofs.parts.Doing.{did-carries, goes-none, goes-moves, goes-most}
+use Rattle.seatcalls.proofs.parts.Ending.{caller-still, room-still, ends-at-last, ends-at-own, none-at-last, none-at-own}
 use Rattle.shardpool.proofs.reclaim.reclaim_place.Goals as goal
 
 pub returns-then-generation-grid-clause-tails : goal.returns-then-generation-grid-clause-tails
@@ -46,7 +46,7 @@ returns-then-shard_of-at-clause-reclaimed g c =
 pub take_cell-whole-requires : goal.take_cell-whole-requires
 take_cell-whole-requires g c =
     let act = c.requires.act in record {
-      may = record { hand = act.hand; spot = act.at.spot; below = act.at.below; place = c.requires.place.0 };
+      may = record { hand = act.hand; spot = act.at.spot; below = (let low = act.at.below in omega (arith, low)); place = c.requires.place.0 };
       bare = act.bare;
       slots = c.requires.place.1;
     }
@@ -66,7 +66,7 @@ rest_cell-requires g c =
     let act = c.requires.act in
     let took = c.take_cell-whole.ensures in
     let moves = took.moves in record {
-      may = record { hand = (moves.hand.0.0 ∙ act.hand.0, moves.hand.1); spot = act.at.spot; below = act.at.below; place = moves.place };
+      may = record { hand = (moves.hand.0.0 ∙ act.hand.0, moves.hand.1); spot = act.at.spot; below = (let low = act.at.below in omega (arith, low)); place = moves.place };
       slots = took.slots;
       at = took.cell.2;
     }
@@ -129,7 +129,7 @@ pub retire-requires-clause-may : goal.retire-requires-clause-may
 retire-requires-clause-may g c =
     let act = c.requires.act in
     let moves = c.take_cell-whole.ensures.moves in
-    record { hand = (moves.hand.0.0 ∙ act.hand.0, moves.hand.1); spot = act.at.spot; below = act.at.below; place = moves.place }
+    record { hand = (moves.hand.0.0 ∙ act.hand.0, moves.hand.1); spot = act.at.spot; below = (let low = act.at.below in omega (arith, low)); place = moves.place }
 
 pub retire-requires-clause-slots : goal.retire-requires-clause-slots
 retire-requires-clause-slots g c = c.take_cell-whole.ensures.slots

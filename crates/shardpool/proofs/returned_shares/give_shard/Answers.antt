@@ -99,7 +99,7 @@ give_row-requires-clause-index g c =
     let at = starts z c.args.shard c.loop-index.index place c.shard_start-start.result c.shard_places-places.result c.shard_start-start.ensures c.shard_places-places.ensures
     c.loop-index-test.true inside c.place_at.ensures.position in
     let is = slot-is z place c.args.number c.slot_row-wide.result (c.shard_start-start.result + c.loop-index.index) c.slot_row-wide.ensures at in
-    let deep = slot-below z place c.args.number inside c.requires.lanes.0 in
+    let low = c.requires.lanes.0 in let deep = slot-below z place c.args.number inside (omega (arith, low)) in
     let count = c.loop-index.invariant.row.1 in
     omega (arith, is, deep, count)
 

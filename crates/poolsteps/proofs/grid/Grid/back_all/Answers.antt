@@ -1,4 +1,5 @@
 use Rattle.poolsteps.specs.Layout.{spots_at}
+use Rattle.keybits.specs.Shapes.{callers}
 use Rattle.std.proofs.Common.{refl, ap, sym, ◌∙◌, subst, arith}
 use Rattle.keybits.specs.declared.shape.Shape.{Shape}
 use Rattle.poolsteps.specs.Rest.{lowest_share}
@@ -41,8 +42,8 @@ lay_all-requires g c =
     let book = sym put.hand.1 in
     let values = put.held.0 in
     let stored = ap (λ xs. stored_held g.T.Clear.content g.T.Clear.room (first_value xs)) put.held.2
-    ∙ first-stored g.T.Clear.content g.T.Clear.room (spots_at c.args.self.now.objects.ptr c.args.self.now.shape) z (stored_of g.T.Clear.content g.T.Clear.room (lowest_share c.args.rest)) c.args.spot.place z.lanes (falling z) values
-    put.held.1 some (omega (arith, some)) in
+    ∙ first-stored g.T.Clear.content g.T.Clear.room (spots_at c.args.self.now.objects.ptr c.args.self.now.shape) z (stored_of g.T.Clear.content g.T.Clear.room (lowest_share c.args.rest)) c.args.spot.place (callers z) (falling z) values
+    put.held.1 (omega (arith, some)) (omega (arith, some)) in
     record {
       aim = (refl {a = z}, refl {a = c.args.self.now.objects.ptr}, refl {a = c.args.spot.place}, falling-order z);
       hand = (put.hand.0.0 ∙ (c.lift_all.ensures.hand.0 ∙ c.requires.hand.0), subst (λ v. IsOne v) book lifts.goes.goes.lanes);
@@ -68,7 +69,7 @@ returns-clause-backs g c =
     let values = put.held.0 in
     let cell : Stored = stored_of g.T.Clear.content g.T.Clear.room (lowest_share c.args.rest) in
     let stored = ap (λ xs. stored_held g.T.Clear.content g.T.Clear.room (first_value xs)) put.held.2
-    ∙ first-stored g.T.Clear.content g.T.Clear.room (spots_at c.args.self.now.objects.ptr c.args.self.now.shape) z cell c.args.spot.place z.lanes (falling z) values put.held.1 some (omega (arith, some)) in
+    ∙ first-stored g.T.Clear.content g.T.Clear.room (spots_at c.args.self.now.objects.ptr c.args.self.now.shape) z cell c.args.spot.place (callers z) (falling z) values put.held.1 (omega (arith, some)) (omega (arith, some)) in
     let laid = c.lay_all.ensures.lays in
     let same = subst (λ (x : Stored). GoesAll z c.args.spot.place Untouched x 1 c.put_all.new.hand.me.0 c.lay_all.new.hand.me.0) stored laid.goes in
     record {

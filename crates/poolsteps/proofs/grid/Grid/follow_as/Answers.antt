@@ -23,5 +23,5 @@ load-requires g c =
       rw (c.link_of.ensures, grid.sized) (index-below z grid.checked (Link place) spot.inside),
       rw (asked.aim, c.link_of.ensures, grid.board_is)
           (word-allows content room spots z grid.table.shared.table_id.slots hand.id hand.me asked.hand.1 (Link place) spot.inside (λ n. n) (Follows z hand.me)
-          (λ words w slots point at below. follow-makes content room spots z words w slots point hand.me place at asked.chain)),
+          (λ words w slots point at below. follow-makes content room spots z words w slots point hand.me place at asked.lane asked.chain)),
     )

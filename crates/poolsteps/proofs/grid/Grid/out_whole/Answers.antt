@@ -1,4 +1,5 @@
 use Rattle.keybits.proofs.ShapeLemmas.{is_place-parts}
+use Rattle.std.proofs.Common.{arith}
 use Rattle.poolsteps.proofs.grid.Grid.out_whole.Goals as goal
 
 pub out_as-requires : goal.out_as-requires
@@ -6,7 +7,7 @@ out_as-requires g c = record {
   aim = (λ bad. cc bad, λ bad. cc bad);
   hand = c.requires.hand;
   spot = c.requires.spot;
-  lanes = (c.requires.lane, rw c.shard_of.ensures (is_place-parts c.args.self.now.shape c.args.spot.place c.requires.spot.inside).0);
+  lanes = (c.requires.lane, (let low = (is_place-parts c.args.self.now.shape c.args.spot.place c.requires.spot.inside).0 in rw c.shard_of.ensures (omega (arith, low))));
   may = rw c.shard_of.ensures c.requires.may;
   left = rw c.shard_of.ensures c.requires.left;
 }

@@ -36,7 +36,7 @@ compare_exchange-requires g c =
       rw (asked.aim, index, c.link_to.ensures.word, grid.board_is)
           (word-allows content room spots z grid.table.shared.table_id.slots c.args.hand.now.id me asked.hand.1 stack inside
           (λ word. either (word == top) (link_to place) word) (Pushes z top me)
-          (λ words w slots point at small. push-makes content room spots z words w slots point me at top place asked.returns asked.aims asked.rests)),
+          (λ words w slots point at small. push-makes content room spots z words w slots point me at top (subst (λ (n : ℕ). n < z.lanes) asked.lane.0 asked.lane.1) place asked.returns asked.aims asked.rests)),
     )
 
 pub stack_of-word-requires : goal.stack_of-word-requires

@@ -1,4 +1,5 @@
 use Rattle.poolsteps.specs.Layout.{spots_at}
+use Rattle.keybits.specs.Shapes.{callers}
 use Rattle.std.proofs.Common.{◌≡◌, ◌+◌, ◌-◌, ℕ, suc, Option, Some, refl, ap, sym, ◌∙◌, arith}
 use Rattle.keybits.specs.declared.shape.Shape.{Shape}
 use Rattle.poolsteps.specs.Share.{Share, share_of}
@@ -13,12 +14,12 @@ share_in rest number = Some (share_of rest.cell rest.spot rest.of rest.object nu
 pub loop-number-init : goal.loop-number-init
 loop-number-init g c =
     let z : Shape = c.args.self.now.shape in
-    let left : z.lanes ≡ z.lanes - 0 = omega arith in
+    let left : (callers z) ≡ (callers z) - 0 = omega arith in
     record {
       seat = (refl, refl);
       book = refl;
       values = c.requires.held.0;
-      held = c.requires.held.1 ∙ (turning-none z c.args.spot.place (falling z) c.requires.held.0 (share_in c.args.rest) z.lanes
+      held = c.requires.held.1 ∙ (turning-none z c.args.spot.place (falling z) c.requires.held.0 (share_in c.args.rest) (callers z)
           ∙ ap (λ (n : ℕ). turning z c.args.spot.place (falling z) c.requires.held.0 (share_in c.args.rest) n 0) left);
       rest = λ i. record c.args.rest { number = c.requires.rest.number_is i };
     }
@@ -39,7 +40,7 @@ put_next-requires-clause-held g c =
     let below = c.loop-number-test.true in
     let number : ℕ = c.loop-number.number in (
       h.values number,
-      turning-head z c.args.spot.place (falling z) h.values (share_in c.args.rest) {left = z.lanes - 1 - number} {number = number} number
+      turning-head z c.args.spot.place (falling z) h.values (share_in c.args.rest) {left = (callers z) - 1 - number} {number = number} number
           (omega (arith, below)) (omega (arith, below)) h.held,
     )
 
@@ -51,9 +52,9 @@ loop-number-preserved g c =
     let number : ℕ = c.loop-number.number in
     let put = c.put_next.ensures in
     let share : share_in c.args.rest number ≡ Some c.cut.result = ap Some (ap lowest_share (sym h.rest) ∙ sym c.cut.ensures.share) in
-    let turned = turning-next z c.args.spot.place (falling z) h.values (share_in c.args.rest) {left = z.lanes - 1 - number} {number = number} number
+    let turned = turning-next z c.args.spot.place (falling z) h.values (share_in c.args.rest) {left = (callers z) - 1 - number} {number = number} number
     (omega (arith, below)) (omega (arith, below)) h.held (Some c.cut.result) share in
-    let left : z.lanes - 1 - number ≡ z.lanes - (number + 1) = omega (arith, below) in
+    let left : (callers z) - 1 - number ≡ (callers z) - (number + 1) = omega (arith, below) in
     let done : suc number ≡ number + 1 = omega arith in
     record {
       seat = (put.hand.0 ∙ h.seat.0, put.hand.1 ∙ h.seat.1);
@@ -80,8 +81,8 @@ put_next-requires-2-clause-held g c =
     let some = c.args.self.now.checked.lanes.0 in
     let most = c.loop-number.auto.number-end in
     let least = c.loop-number-test.false in (
-      h.values (z.lanes - 1),
-      turning-head z c.args.spot.place (falling z) h.values (share_in c.args.rest) {left = 0} {number = z.lanes - 1} c.loop-number.number
+      h.values ((callers z) - 1),
+      turning-head z c.args.spot.place (falling z) h.values (share_in c.args.rest) {left = 0} {number = (callers z) - 1} c.loop-number.number
           (omega (arith, most, least, some)) (omega arith) h.held,
     )
 
@@ -98,14 +99,14 @@ returns-clause-held g c =
     let most = c.loop-number.auto.number-end in
     let least = c.loop-number-test.false in
     let put = c.put_next-2.ensures in
-    let last : c.loop-number.number ≡ z.lanes - 1 = omega (arith, most, least, some) in
-    let share : share_in c.args.rest (z.lanes - 1) ≡ Some c.into_share.result =
+    let last : c.loop-number.number ≡ (callers z) - 1 = omega (arith, most, least, some) in
+    let share : share_in c.args.rest ((callers z) - 1) ≡ Some c.into_share.result =
     ap (share_in c.args.rest) (sym last) ∙ (ap Some (ap lowest_share (sym h.rest)) ∙ ap Some (sym c.into_share.ensures)) in
-    let turned = turning-next z c.args.spot.place (falling z) h.values (share_in c.args.rest) {left = 0} {number = z.lanes - 1} c.loop-number.number
+    let turned = turning-next z c.args.spot.place (falling z) h.values (share_in c.args.rest) {left = 0} {number = (callers z) - 1} c.loop-number.number
     (omega (arith, most, least, some)) (omega arith) h.held (Some c.into_share.result) share in
-    let done : suc c.loop-number.number ≡ z.lanes = omega (arith, most, least, some) in (
+    let done : suc c.loop-number.number ≡ (callers z) = omega (arith, most, least, some) in (
       share_in c.args.rest,
       rest-left g.T.Clear.content g.T.Clear.room (spots_at c.args.self.now.objects.ptr c.args.self.now.shape) c.args.spot.place z g.J.MoveAll.stored c.args.rest c.requires.rest,
       ap (λ me. me.1) put.held ∙ (turned ∙ (ap (turning z c.args.spot.place (falling z) h.values (share_in c.args.rest) 0) done
-          ∙ turning-all z c.args.spot.place (falling z) h.values (share_in c.args.rest) z.lanes)),
+          ∙ turning-all z c.args.spot.place (falling z) h.values (share_in c.args.rest) (callers z))),
     )

@@ -1,4 +1,5 @@
 use Rattle.std.proofs.Common.{◌≡◌, ◌-◌, ℕ, Option, Some}
+use Rattle.keybits.specs.Shapes.{callers}
 use Rattle.poolsteps.specs.Share.{Share, share_of}
 use Rattle.poolsteps.specs.Grids.{SameSeat}
 use Rattle.poolsteps.proofs.Turning.{falling, turning}
@@ -11,6 +12,6 @@ invariant-loop-number g l = record {
   book : l.hand.me.0 ≡ l.fn.hand.me.0;
   values : ℕ → Option (Share g.row.T.Denot);
   held : l.hand.me.1 ≡ turning l.self.shape l.spot.place (falling l.self.shape) values (λ n. Some (share_of l.fn.rest.cell l.fn.rest.spot l.fn.rest.of l.fn.rest.object n))
-      (l.self.shape.lanes - l.number) l.number;
+      ((callers l.self.shape) - l.number) l.number;
   rest : l.rest ≡ record l.fn.rest { number = l.number };
 }

@@ -1,4 +1,5 @@
 use Rattle.poolsteps.specs.Layout.{spots_at}
+use Rattle.keybits.specs.Shapes.{callers}
 use Rattle.std.proofs.Common.{◌≡◌, ◌-◌, ℕ, suc, Option, None, refl, ap, sym, ◌∙◌, arith}
 use Rattle.keybits.specs.declared.shape.Shape.{Shape}
 use Rattle.poolsteps.specs.Share.{Share}
@@ -15,18 +16,18 @@ take_next-requires-clause-held g c =
     let z : Shape = c.args.self.now.shape in
     let some = c.args.self.now.checked.lanes.0 in
     let values = c.requires.held.0 in
-    let head = turning-head z c.args.spot.place rising values nothing {count = z.lanes} {left = z.lanes - 1} {number = z.lanes - 1} 0 (omega (arith, some)) refl
-    (c.requires.held.2 ∙ turning-none z c.args.spot.place rising values nothing z.lanes) in
-    some-share g.T.Clear.content g.T.Clear.room (spots_at c.args.self.now.objects.ptr c.args.self.now.shape) c.args.spot.place z g.J.MoveAll.stored values c.requires.held.1 (z.lanes - 1) (omega (arith, some)) head
+    let head = turning-head z c.args.spot.place rising values nothing {count = (callers z)} {left = (callers z) - 1} {number = (callers z) - 1} 0 (omega (arith, some)) refl
+    (c.requires.held.2 ∙ turning-none z c.args.spot.place rising values nothing (callers z)) in
+    some-share g.T.Clear.content g.T.Clear.room (spots_at c.args.self.now.objects.ptr c.args.self.now.shape) c.args.spot.place z g.J.MoveAll.stored values c.requires.held.1 ((callers z) - 1) (omega (arith, some)) head
 
 pub of_last-rest-requires : goal.of_last-rest-requires
 of_last-rest-requires g c =
     let z : Shape = c.args.self.now.shape in
     let some = c.args.self.now.checked.lanes.0 in
     let values = c.requires.held.0 in
-    let head = turning-head z c.args.spot.place rising values nothing {count = z.lanes} {left = z.lanes - 1} {number = z.lanes - 1} 0 (omega (arith, some)) refl
-    (c.requires.held.2 ∙ turning-none z c.args.spot.place rising values nothing z.lanes) in
-    let share = found-share g.T.Clear.content g.T.Clear.room (spots_at c.args.self.now.objects.ptr c.args.self.now.shape) c.args.spot.place z g.J.MoveAll.stored values c.requires.held.1 (z.lanes - 1) (omega (arith, some)) head c.take_next.result
+    let head = turning-head z c.args.spot.place rising values nothing {count = (callers z)} {left = (callers z) - 1} {number = (callers z) - 1} 0 (omega (arith, some)) refl
+    (c.requires.held.2 ∙ turning-none z c.args.spot.place rising values nothing (callers z)) in
+    let share = found-share g.T.Clear.content g.T.Clear.room (spots_at c.args.self.now.objects.ptr c.args.self.now.shape) c.args.spot.place z g.J.MoveAll.stored values c.requires.held.1 ((callers z) - 1) (omega (arith, some)) head c.take_next.result
     c.take_next.ensures.share in
     let number = share.number_is in
     let of = share.of_is in omega (arith, some, number, of)
@@ -36,24 +37,24 @@ loop-number-init g c =
     let z : Shape = c.args.self.now.shape in
     let some = c.args.self.now.checked.lanes.0 in
     let values = c.requires.held.0 in
-    let head = turning-head z c.args.spot.place rising values nothing {count = z.lanes} {left = z.lanes - 1} {number = z.lanes - 1} 0 (omega (arith, some)) refl
-    (c.requires.held.2 ∙ turning-none z c.args.spot.place rising values nothing z.lanes) in
-    let share = found-share g.T.Clear.content g.T.Clear.room (spots_at c.args.self.now.objects.ptr c.args.self.now.shape) c.args.spot.place z g.J.MoveAll.stored values c.requires.held.1 (z.lanes - 1) (omega (arith, some)) head c.take_next.result
+    let head = turning-head z c.args.spot.place rising values nothing {count = (callers z)} {left = (callers z) - 1} {number = (callers z) - 1} 0 (omega (arith, some)) refl
+    (c.requires.held.2 ∙ turning-none z c.args.spot.place rising values nothing (callers z)) in
+    let share = found-share g.T.Clear.content g.T.Clear.room (spots_at c.args.self.now.objects.ptr c.args.self.now.shape) c.args.spot.place z g.J.MoveAll.stored values c.requires.held.1 ((callers z) - 1) (omega (arith, some)) head c.take_next.result
     c.take_next.ensures.share in
-    let next = turning-next z c.args.spot.place rising values nothing {count = z.lanes} {left = z.lanes - 1} {number = z.lanes - 1} 0 (omega (arith, some)) refl
-    (c.requires.held.2 ∙ turning-none z c.args.spot.place rising values nothing z.lanes) None refl in
-    let done : suc 0 ≡ z.lanes - (z.lanes - 1) = omega (arith, some) in
+    let next = turning-next z c.args.spot.place rising values nothing {count = (callers z)} {left = (callers z) - 1} {number = (callers z) - 1} 0 (omega (arith, some)) refl
+    (c.requires.held.2 ∙ turning-none z c.args.spot.place rising values nothing (callers z)) None refl in
+    let done : suc 0 ≡ (callers z) - ((callers z) - 1) = omega (arith, some) in
     record {
       seat = c.take_next.ensures.hand;
       inside = omega (arith, some);
       values = values;
       are = c.requires.held.1;
-      held = c.take_next.ensures.held ∙ (λ i. (c.args.hand.now.me.0, (next ∙ ap (turning z c.args.spot.place rising values nothing (z.lanes - 1)) done) i));
+      held = c.take_next.ensures.held ∙ (λ i. (c.args.hand.now.me.0, (next ∙ ap (turning z c.args.spot.place rising values nothing ((callers z) - 1)) done) i));
       number_is = ap (λ s. s.number) (sym c.of_last-rest.ensures) ∙ share.number_is;
       of_is = ap (λ s. s.of) (sym c.of_last-rest.ensures) ∙ share.of_is;
       spot_is = ap (λ s. s.spot) (sym c.of_last-rest.ensures) ∙ share.spot_is;
       cell_is = ap (stored_of g.T.Clear.content g.T.Clear.room) (sym c.of_last-rest.ensures)
-          ∙ sym (stored-is g.T.Clear.content g.T.Clear.room (spots_at c.args.self.now.objects.ptr c.args.self.now.shape) c.args.spot.place g.J.MoveAll.stored (z.lanes - 1) z.lanes c.take_next.result share);
+          ∙ sym (stored-is g.T.Clear.content g.T.Clear.room (spots_at c.args.self.now.objects.ptr c.args.self.now.shape) c.args.spot.place g.J.MoveAll.stored ((callers z) - 1) (callers z) c.take_next.result share);
     }
 
 pub take_next-requires-in-loop-number-clause-held : goal.take_next-requires-in-loop-number-clause-held
@@ -63,7 +64,7 @@ take_next-requires-in-loop-number-clause-held g c =
     let some = c.loop-number-test.true in
     let inside = h.inside in
     let next : ℕ = c.loop-number.number - 1 in
-    let head = turning-head z c.args.spot.place rising h.values nothing {left = next} {number = next} (z.lanes - c.loop-number.number) (omega (arith, some)) refl
+    let head = turning-head z c.args.spot.place rising h.values nothing {left = next} {number = next} ((callers z) - c.loop-number.number) (omega (arith, some)) refl
     (ap (λ me. me.1) h.held) in
     some-share g.T.Clear.content g.T.Clear.room (spots_at c.args.self.now.objects.ptr c.args.self.now.shape) c.args.spot.place z g.J.MoveAll.stored h.values h.are next (omega (arith, some, inside)) head
 
@@ -74,7 +75,7 @@ merge-requires g c =
     let some = c.loop-number-test.true in
     let inside = h.inside in
     let next : ℕ = c.loop-number.number - 1 in
-    let head = turning-head z c.args.spot.place rising h.values nothing {left = next} {number = next} (z.lanes - c.loop-number.number) (omega (arith, some)) refl
+    let head = turning-head z c.args.spot.place rising h.values nothing {left = next} {number = next} ((callers z) - c.loop-number.number) (omega (arith, some)) refl
     (ap (λ me. me.1) h.held) in
     let share = found-share g.T.Clear.content g.T.Clear.room (spots_at c.args.self.now.objects.ptr c.args.self.now.shape) c.args.spot.place z g.J.MoveAll.stored h.values h.are next (omega (arith, some, inside)) head c.take_next-in-loop-number.result
     c.take_next-in-loop-number.ensures.share in
@@ -93,14 +94,14 @@ loop-number-preserved g c =
     let some = c.loop-number-test.true in
     let inside = h.inside in
     let next : ℕ = c.loop-number.number - 1 in
-    let head = turning-head z c.args.spot.place rising h.values nothing {left = next} {number = next} (z.lanes - c.loop-number.number) (omega (arith, some)) refl
+    let head = turning-head z c.args.spot.place rising h.values nothing {left = next} {number = next} ((callers z) - c.loop-number.number) (omega (arith, some)) refl
     (ap (λ me. me.1) h.held) in
     let share = found-share g.T.Clear.content g.T.Clear.room (spots_at c.args.self.now.objects.ptr c.args.self.now.shape) c.args.spot.place z g.J.MoveAll.stored h.values h.are next (omega (arith, some, inside)) head c.take_next-in-loop-number.result
     c.take_next-in-loop-number.ensures.share in
     let taken = c.take_next-in-loop-number.ensures in
-    let turned = turning-next z c.args.spot.place rising h.values nothing {left = next} {number = next} (z.lanes - c.loop-number.number) (omega (arith, some)) refl
+    let turned = turning-next z c.args.spot.place rising h.values nothing {left = next} {number = next} ((callers z) - c.loop-number.number) (omega (arith, some)) refl
     (ap (λ me. me.1) h.held) None refl in
-    let done : suc (z.lanes - c.loop-number.number) ≡ z.lanes - next = omega (arith, some, inside) in
+    let done : suc ((callers z) - c.loop-number.number) ≡ (callers z) - next = omega (arith, some, inside) in
     record {
       seat = (taken.hand.0 ∙ h.seat.0, taken.hand.1 ∙ h.seat.1);
       inside = omega (arith, inside);
@@ -119,7 +120,7 @@ returns-clause-held g c =
     let h = c.loop-number.invariant in
     let none = c.loop-number-test.false in
     let left : c.loop-number.number ≡ 0 = omega (arith, none) in
-    let done : z.lanes - c.loop-number.number ≡ z.lanes = omega (arith, none) in
-    let all : turning z c.args.spot.place rising h.values nothing c.loop-number.number (z.lanes - c.loop-number.number)
-    ≡ turning z c.args.spot.place rising h.values nothing 0 z.lanes = λ i. turning z c.args.spot.place rising h.values nothing (left i) (done i) in
-    h.held ∙ (λ i. (c.args.hand.now.me.0, (all ∙ turning-all z c.args.spot.place rising h.values nothing z.lanes) i))
+    let done : (callers z) - c.loop-number.number ≡ (callers z) = omega (arith, none) in
+    let all : turning z c.args.spot.place rising h.values nothing c.loop-number.number ((callers z) - c.loop-number.number)
+    ≡ turning z c.args.spot.place rising h.values nothing 0 (callers z) = λ i. turning z c.args.spot.place rising h.values nothing (left i) (done i) in
+    h.held ∙ (λ i. (c.args.hand.now.me.0, (all ∙ turning-all z c.args.spot.place rising h.values nothing (callers z)) i))

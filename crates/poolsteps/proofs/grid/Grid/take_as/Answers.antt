@@ -1,5 +1,5 @@
 use Rattle.poolsteps.specs.Layout.{spots_at}
-use Rattle.std.proofs.Common.{◌≡◌, ◌≢◌, ℕ, true, ap, sym, ◌∙◌}
+use Rattle.std.proofs.Common.{subst, ◌<◌, ◌≡◌, ◌≢◌, ℕ, true, ap, sym, ◌∙◌}
 use Rattle.std.specs.Cmp.Derive.{both_true}
 use Rattle.std.proofs.lemmas.Bool.{lt-ltb}
 use Rattle.keybits.specs.declared.shape.Shape.{Shape}
@@ -30,7 +30,7 @@ swap-requires g c =
       rw (grid.sized) c.stack_of-word.ensures.inside,
       rw (asked.aim.0, asked.aim.1, word, grid.board_is)
           (word-allows content room spots z grid.table.shared.table_id.slots hand.id hand.me asked.hand.1 (Stack lane from) inside (λ n. 0) (Takes z from hand.me)
-          (λ words w slots point at below. take-makes content room spots z words w slots point hand.me from at asked.from.0 apart)),
+          (λ words w slots point at below. take-makes content room spots z words w slots point hand.me from at (subst (λ (n : ℕ). n < z.lanes) own asked.lane.1) asked.from.0 apart)),
     )
 
 pub stack_of-word-requires : goal.stack_of-word-requires

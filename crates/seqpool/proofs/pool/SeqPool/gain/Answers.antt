@@ -20,7 +20,7 @@ pub index_mut-requires : goal.index_mut-requires
 index_mut-requires c = subst (λ (n : ℕ). c.position-position.result < n) (sym c.args.self.now.whole) c.position-position.ensures.below
 
 pub invariant_of-self : goal.invariant_of-self
-invariant_of-self c = record { checked = c.args.self.now.checked; narrow = c.args.self.now.narrow; whole = c.args.self.now.whole }
+invariant_of-self c = record { checked = c.args.self.now.checked; narrow = c.args.self.now.narrow; alone = c.args.self.now.alone; whole = c.args.self.now.whole }
 
 pub returns-clause-shape : goal.returns-clause-shape
 returns-clause-shape c = refl

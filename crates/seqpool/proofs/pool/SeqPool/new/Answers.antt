@@ -50,7 +50,7 @@ overflow_cast-lane c =
 pub invariant_of-result : goal.invariant_of-result
 invariant_of-result c =
     let size : vec_len c.loop-position.rows ≡ all_places c.args.shape = omega arith in
-    record { checked = c.requires.0; narrow = c.requires.1; whole = size }
+    record { checked = c.requires.0; narrow = c.requires.1; alone = c.requires.3; whole = size }
 
 pub returns-clause-shape : goal.returns-clause-shape
 returns-clause-shape c = refl

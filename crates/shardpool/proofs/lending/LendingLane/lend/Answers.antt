@@ -1,3 +1,4 @@
+use Rattle.poolsteps.specs.Views.{the_lane}
 -- A get whose share is lent: what its lane keeps is as if the share were in its row.
 use Rattle.std.proofs.Common.{◌≡◌, inr, ℕ, List, [], ◌∷◌, Some, None, refl, sym, ap, ◌∙◌, subst, arith, slice_get, slice_set, slice_index_or}
 use Rattle.std.proofs.lemmas.Bool.{false≢true}
@@ -10,14 +11,15 @@ use Rattle.seqpool.specs.Pool.{IsLegal}
 use Rattle.steplaws.specs.Calls.Call.{Getting}
 use Rattle.poolsteps.specs.Layout.{slot_start}
 use Rattle.poolsteps.specs.Spot.{Spot as CellSpot}
-use Rattle.shardpool.specs.Called.{Called, GetHits}
-use Rattle.shardpool.specs.Carried.{Carries}
+use Rattle.steplaws.proofs.Lives.{most-lane}
+use Rattle.seatcalls.specs.Called.{Called, GetHits}
+use Rattle.seatcalls.specs.Carried.{Carries}
 use Rattle.shardpool.specs.HeldKeys.{HeldKey}
 use Rattle.shardpool.specs.declared.pool.LaneState.{LaneState}
 use Rattle.shardpool.specs.Tokens.{LaneOf}
-use Rattle.shardpool.proofs.parts.Moves.{carries-out}
-use Rattle.shardpool.proofs.parts.Standing.{has-left, lawful}
-use Rattle.shardpool.proofs.parts.Calling.{called-after, acts-behind, life-under, get-hits, hit-tells, get-misses}
+use Rattle.seatcalls.proofs.parts.Moves.{carries-out}
+use Rattle.seatcalls.proofs.parts.Standing.{has-left, lawful}
+use Rattle.seatcalls.proofs.parts.Calling.{called-after, acts-behind, life-under, get-hits, hit-tells, get-misses}
 use Rattle.shardpool.proofs.calls.CallParts.{calls-more}
 use Rattle.shardpool.proofs.calls.Gets.{Gained, called-then, seen-within}
 use Rattle.shardpool.proofs.calls.AfterCalls.{get-missed, get-found, get-outside}
@@ -39,7 +41,10 @@ enter-found-requires-clause-room g c _ =
     let before = ready c.self.view_is c.requires.owns.1 c.pool.view_is c.self.invariant.1.fits c.in_ok-spot.ensures.spot in
     let most = seen-within before.fits c.args.key before.there.inside in
     let few = rw (← c.self.view_is) at c.requires.room in
-    let all = before.fits.rows.by_acts in omega (arith, most, few, all)
+    let all = before.fits.rows.by_acts in
+    let own = before.fits.seat.number_is in
+    let below = before.fits.seat.below in
+    most-lane c.pool.inside.grid.shape (the_lane c.self.inside.hand.me.0).lane _ (omega (arith, own, below)) (omega (arith, most, few, all))
 
 -- ---- a miss
 

@@ -1,18 +1,18 @@
 -- A release whose share comes back from a loan: what the lane keeps is as if the share had been in its row.
 use Rattle.std.proofs.Common.{◌≡◌, inl, ℕ, Option, Some, IfSome, refl, sym, ap, ◌∙◌, subst, arith}
 use Rattle.keybits.specs.declared.shape.Shape.{Shape}
-use Rattle.keybits.specs.Shapes.{is_place}
+use Rattle.keybits.specs.Shapes.{callers, is_place}
 use Rattle.keybits.specs.Keys.{place_of}
 use Rattle.steplaws.specs.Calls.Call.{Releasing}
 use Rattle.poolsteps.specs.Layout.{slot_start, spots_at}
 use Rattle.poolsteps.specs.Moved.{Settles}
 use Rattle.poolsteps.specs.Told.{MayTouch}
 use Rattle.poolsteps.specs.Views.{the_lane, status_of, known_of}
-use Rattle.shardpool.specs.Called.{Called}
+use Rattle.seatcalls.specs.Called.{Called}
 use Rattle.shardpool.specs.Lendings.{LendsHome}
 use Rattle.shardpool.specs.declared.pool.LaneState.{LaneState}
-use Rattle.shardpool.proofs.parts.Calling.{release-called}
-use Rattle.shardpool.proofs.parts.Standing.{has-left, lawful}
+use Rattle.seatcalls.proofs.parts.Calling.{release-called}
+use Rattle.seatcalls.proofs.parts.Standing.{has-left, lawful}
 use Rattle.shardpool.proofs.calls.CallParts.{calls-more, calls-behind}
 use Rattle.shardpool.proofs.frame.SeenHistories.{same-shape, same-directory}
 use Rattle.shardpool.proofs.references.Holdings.{release-holds}
@@ -61,7 +61,7 @@ settle-requires-clause-share g c =
     let here = same-directory c.self.view_is c.requires.owns.2 c.pool.view_is in
     given _ c.args.share loan.share loan.share_is (
       loan.under.number_is ∙ sym refer.fits.seat.number_is,
-      loan.under.of_is ∙ ap (λ (y : Shape). y.lanes) (sym shape),
+      loan.under.of_is ∙ ap (λ (y : Shape). callers y) (sym shape),
       loan.spot ∙ (λ i. record { directory = here i; index = loan.start i }) ∙ (λ i. spots_at c.pool.inside.grid.objects.ptr (sym shape i) (sym c.requires.place i)),
     )
 

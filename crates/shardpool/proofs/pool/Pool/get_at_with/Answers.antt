@@ -1,3 +1,4 @@
+use Rattle.poolsteps.specs.Views.{the_lane}
 -- A get: what a miss leaves of the lane, and what a hit does whose key the lane has already, or not yet.
 use Rattle.std.proofs.Common.{ℕ, inr, [], ◌∷◌, None, refl, sym, ap, ◌∙◌, subst, arith}
 use Rattle.std.proofs.lemmas.Bool.{false≢true}
@@ -5,13 +6,14 @@ use Rattle.keybits.specs.Keys.{is_key}
 use Rattle.seqpool.specs.declared.act.Act.TheVariants as acts
 use Rattle.seqpool.specs.Pool.{IsLegal}
 use Rattle.steplaws.specs.Calls.Call.{Getting}
-use Rattle.shardpool.specs.Called.{Called, GetHits}
-use Rattle.shardpool.proofs.parts.Moves.{carries-fetch}
-use Rattle.shardpool.specs.Carried.{Carries}
+use Rattle.steplaws.proofs.Lives.{most-lane}
+use Rattle.seatcalls.specs.Called.{Called, GetHits}
+use Rattle.seatcalls.proofs.parts.Moves.{carries-fetch}
+use Rattle.seatcalls.specs.Carried.{Carries}
 use Rattle.keybits.specs.Keys.{place_of}
 use Rattle.shardpool.proofs.parts.Handing.{hands-none, hands-behind, hands-after}
-use Rattle.shardpool.proofs.parts.Standing.{has-left, lawful}
-use Rattle.shardpool.proofs.parts.Calling.{called-after, acts-behind, life-under, get-hits, hit-tells, get-misses}
+use Rattle.seatcalls.proofs.parts.Standing.{has-left, lawful}
+use Rattle.seatcalls.proofs.parts.Calling.{called-after, acts-behind, life-under, get-hits, hit-tells, get-misses}
 use Rattle.shardpool.specs.Tokens.{LaneOf}
 use Rattle.shardpool.proofs.calls.CallParts.{calls-more}
 use Rattle.shardpool.proofs.calls.Gets.{Gained, called-then, seen-within}
@@ -33,7 +35,10 @@ enter-found-requires-clause-room g c _ =
     let before = ready c.lane.view_is c.requires.owns.1 c.self.view_is c.lane.invariant.1 c.in_ok-spot.ensures.spot in
     let most = seen-within before.fits c.args.key before.there.inside in
     let few = rw (← c.lane.view_is) at c.requires.room in
-    let all = before.fits.rows.by_acts in omega (arith, most, few, all)
+    let all = before.fits.rows.by_acts in
+    let own = before.fits.seat.number_is in
+    let below = before.fits.seat.below in
+    most-lane c.self.inside.grid.shape (the_lane c.lane.inside.hand.me.0).lane _ (omega (arith, own, below)) (omega (arith, most, few, all))
 
 -- ---- a miss
 

@@ -3,7 +3,7 @@ use Rattle.std.proofs.Common.{false, true, ◌≡◌, refl, sym, ap, ◌∙◌, 
 use Rattle.keybits.specs.Keys.{is_key}
 use Rattle.keybits.specs.declared.shape.Shape.{Shape}
 use Rattle.steplaws.specs.Calls.Call.{Clearing}
-use Rattle.shardpool.specs.Called.{caller_of}
+use Rattle.seatcalls.specs.Called.{caller_of}
 use Rattle.shardpool.specs.Halted.{CalledWithin}
 use Rattle.shardpool.proofs.calls.KeyCalls.{ready-at}
 use Rattle.shardpool.proofs.calls.Halts.{halts-none, outside-none, ready-parts, lawful-parts}

@@ -7,7 +7,7 @@ use Rattle.keybits.specs.Places.{number_of}
 use Rattle.steplaws.specs.Calls.Call.{Creating}
 use Rattle.poolsteps.specs.Grids.{IsSpot}
 use Rattle.poolsteps.specs.Views.{the_lane}
-use Rattle.shardpool.specs.Called.{caller_of}
+use Rattle.seatcalls.specs.Called.{caller_of}
 use Rattle.shardpool.specs.Halted.{CalledWithin}
 use Rattle.shardpool.specs.LaneStates.{IsFirst}
 use Rattle.shardpool.proofs.free.Takes.{hung-inside, hung-begins, hung-rests}

@@ -5,7 +5,7 @@ use Rattle.keybits.specs.declared.shape.Shape.{Shape}
 use Rattle.steplaws.specs.Calls.Call.{Getting}
 use Rattle.steplaws.specs.Facts.{most_references}
 use Rattle.poolsteps.specs.Told.{references_seen}
-use Rattle.shardpool.specs.Called.{caller_of}
+use Rattle.seatcalls.specs.Called.{caller_of}
 use Rattle.shardpool.specs.Halted.{CalledWithin}
 use Rattle.shardpool.proofs.calls.Gets.{seen-within}
 use Rattle.shardpool.proofs.calls.KeyCalls.{ready-at}

@@ -5,10 +5,10 @@ use Rattle.seqpool.specs.declared.act.Act.TheVariants as acts
 use Rattle.steplaws.specs.Calls.Call.{Releasing}
 use Rattle.poolsteps.specs.Grids.{IsSpot}
 use Rattle.keybits.specs.Keys.{place_of}
-use Rattle.shardpool.specs.Called.{Called, EndsWithActs, IsReclaimed}
-use Rattle.shardpool.proofs.parts.Calling.{release-called, release-acts}
+use Rattle.seatcalls.specs.Called.{Called, EndsWithActs, IsReclaimed}
+use Rattle.seatcalls.proofs.parts.Calling.{release-called, release-acts}
 use Rattle.shardpool.proofs.parts.Handing.{hands-behind, hands-after, released-mine}
-use Rattle.shardpool.proofs.parts.Standing.{has-left, lawful}
+use Rattle.seatcalls.proofs.parts.Standing.{has-left, lawful}
 use Rattle.poolsteps.specs.Views.{the_lane}
 use Rattle.shardpool.specs.Tokens.{PoolOf}
 use Rattle.shardpool.specs.LaneStates.{Fits}

@@ -4,7 +4,7 @@ use Rattle.std.proofs.lemmas.Bool.{false≢true}
 use Rattle.keybits.specs.declared.shape.Shape.{Shape}
 use Rattle.keybits.specs.declared.place.Place.{Place}
 use Rattle.poolsteps.specs.Views.{the_lane}
-use Rattle.shardpool.specs.Called.{IsLawful}
+use Rattle.seatcalls.specs.Called.{IsLawful}
 use Rattle.shardpool.specs.LaneStates.{IsFirst}
 use Rattle.shardpool.proofs.frame.SeenHistories.{same-shape}
 use Rattle.shardpool.specs.Tokens.{LaneOf}

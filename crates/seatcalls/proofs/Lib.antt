@@ -1,0 +1,2 @@
+pub mod KeptHands
+pub mod parts

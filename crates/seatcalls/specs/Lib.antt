@@ -1,0 +1,12 @@
+pub mod AtPlace
+pub mod Bounds
+pub mod Acted
+pub mod Called
+pub mod Carried
+pub mod Taken
+pub mod Guests
+pub mod Left
+pub mod Visitors
+pub mod ClaimLends
+pub mod Endings
+pub mod Sightings

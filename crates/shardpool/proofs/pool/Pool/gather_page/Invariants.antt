@@ -1,0 +1,14 @@
+-- The rows so far were gathered, and had no place.
+use Rattle.std.proofs.Common.{◌≡◌, []}
+use Rattle.shardpool.specs.Tokens.{FillingOf}
+use Rattle.shardpool.specs.Lanes.{SameLane, Made}
+use Rattle.shardpool.specs.Gathers.{GathersAll, rows_from}
+use Rattle.shardpool.proofs.pool.Pool.gather_page.Given as goal
+
+abbrev pub invariant-loop-row : goal.invariant-loop-row
+invariant-loop-row g l = record {
+  gathers : GathersAll (rows_from l.first l.row) l.initial.lane l.lane;
+  own : l.lane.free.own ≡ [];
+  same : SameLane l.initial.lane l.lane × (l.lane.pages ≡ l.initial.lane.pages);
+  fillings : (filling : FillingOf g.row.T.Denot) → Made l.initial.lane filling → Made l.lane filling;
+}
