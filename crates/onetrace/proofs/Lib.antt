@@ -1,0 +1,4 @@
+pub mod Replies
+pub mod Steps
+pub mod Turns
+pub mod Onward

@@ -1,0 +1,5 @@
+pub mod Books
+pub mod Going
+pub mod WordLemmas
+pub mod PoolLemmas
+pub mod StandingLemmas

@@ -1,0 +1,13 @@
+//! Whether two traces leave the same behind, as far as the turns to come and the replies depend on it.
+#![tactic(auto)]
+
+mod acts;
+mod contents;
+mod lanes;
+mod replies;
+mod standing;
+mod steps;
+mod turns;
+mod words;
+
+pub use standing::same_standing;
