@@ -1,11 +1,7 @@
-//! The Rust crate, by calls of a growing pool.
+//! The Rust crate, by calls.
 use crate::rounds::{self, Plan};
 use crate::stores::{Keyed, Store, BYTES};
 use pardz::{Buffer, Key, Lane, Pool};
-
-fn growing() -> Pool<Buffer> {
-    Pool::growing().expect("memory")
-}
 
 fn key_of(word: u64) -> Key {
     Key::try_from(word).expect("a key")
@@ -37,7 +33,7 @@ pub struct Pardz(Pool<Buffer>);
 
 impl Default for Pardz {
     fn default() -> Pardz {
-        Pardz(growing())
+        Pardz(Pool::new())
     }
 }
 
@@ -67,7 +63,7 @@ pub struct Owned(Pool<Buffer>);
 
 impl Default for Owned {
     fn default() -> Owned {
-        Owned(growing())
+        Owned(Pool::new())
     }
 }
 
@@ -118,7 +114,7 @@ impl Store for ByLane<'_> {
 
 /// Does the rounds of this name, each thread by a lane in hand. None where there are none of the name.
 pub fn do_by_lanes(name: &str, plan: Plan) -> Option<u64> {
-    let pool = growing();
+    let pool = Pool::new();
     match name {
         "get-many" => Some(by_lanes(&pool, plan, rounds::many_gets)),
         "get-two" => Some(by_lanes(&pool, plan, rounds::two_gets)),
@@ -151,7 +147,7 @@ fn by_lanes<'p>(
 
 /// A fresh pool is given buffers by one lane, which clears them in a random order, and is dropped.
 fn one_in_random_order() -> u64 {
-    let pool = growing();
+    let pool = Pool::new();
     let lane = ByLane(pool.lane().expect("a lane is free"));
     rounds::in_random_order(&lane)
 }

@@ -8,7 +8,7 @@
 //!
 //! - `slab`: the `Pool` of the real sharded-slab, as Debian has it; `slab16k` with buffers of 16 KiB, `slab192` with objects of 192
 //!   bytes; `slabowned` by its owned handles;
-//! - `pardz`: the Rust crate, by calls of a growing pool; `owned` by its owned handles; `lane` by a lane in hand of each thread, which
+//! - `pardz`: the Rust crate, by calls; `owned` by its owned handles; `lane` by a lane in hand of each thread, which
 //!   has the rounds `get-many`, `get-two`, `cycle`, `cycle-two`, `at-once-1000`, `churn-1000`, `churn-20000` and `random-100000`;
 //! - `dropin`: the Rust crate's module `sharded_slab`, by the same lines as `slab`; `dropin16k`, `dropin192`
 //!   and `dropinowned` likewise;

@@ -298,7 +298,7 @@ KEPT = [
     ("a number of numbers", SHAPE.format("at", "n as u32 + 1", ""), "n: u32) {}"),
     ("a number of a call", SHAPE.format("at", "next(n)", ""), "let _ = shape.at(next(n));"),
     ("a number of what may write", SHAPE.format("grow", "n", "mut "), "let _ = shape.grow(n);"),
-    ("a look by its definition", LOOK.format("own_word", "APART * (1 + lane as usize)"), "fn look(&self, hand: &mut Hand, lane: u32) {}"),
+    ("a look by its definition", LOOK.format("own_word", "APART * (1 + (lane % MOST_LANES) as usize)"), "fn look(&self, hand: &mut Hand, lane: u32) {}"),
     (
         "room of this name that is another",
         "const BYTES_APART: usize = 128;\n\nstruct S {\n    unused: [u64; BYTES_APART / 8],\n}\n",

@@ -20,7 +20,25 @@ from forms import LEXER, RUST_SIGNS, Parser, Refused, Source
 from shorter import UNWRITTEN, Shorter
 
 ROOT = os.path.dirname(os.path.dirname(os.path.dirname(os.path.abspath(__file__))))
-CRATES = ["keybits", "slotcell", "freelists", "poolsteps", "shardpool"]
+CRATES = ["keybits"]
+
+# What the crate uses of them, by files: `Type::name` is a function of a type, `Trait for Type` an impl. The rest isn't written.
+USED = {
+    "keybits/lib": (
+        "Key Place PAGE_NUMBERS generation_of place_of shard_of tag_of Shape ShapeFault GREATEST_TAG LARGEST_FIRST_PAGE MOST_LANES MOST_PAGES"
+        " Life State MARK_BIT ONE_COUNT ONE_GENERATION PUBLISHED_BIT claimable claimed is_hit marked owes_claim"
+    ).split(),
+    "keybits/place": "GREATEST_PLACE PAGE_NUMBERS Place Place::number shard_of place_of generation_of tag_of".split(),
+    "keybits/key": "Key Key::pack_tagged Key::number".split(),
+    "keybits/shape": (
+        "MOST_LANES LARGEST_FIRST_PAGE MOST_PAGES MOST_PAGE_PLACES GREATEST_TAG Shape ShapeFault Shape::check_wide"
+        " Shape::check_within Shape::page_size Shape::shard_places Shape::places_before is_first_page"
+    ).split(),
+    "keybits/words": (
+        "PUBLISHED_BIT MARK_BIT ONE_COUNT ONE_GENERATION State State::bits State::of_bits Life Life::word Life::of_word"
+        " is_hit owes_claim claimable marked claimed"
+    ).split(),
+}
 
 # What proofs alone use: crates, a folder of std, and traits and types of the kit.
 GHOST_CRATES = {"seqpool", "steplaws"}
@@ -97,8 +115,10 @@ REFUSED_WORDS = set("async await box dyn extern macro_rules static try union yie
 class Eraser(Shorter):
     """The erased text of all files."""
 
-    def __init__(self, crates_folder, crates=CRATES):
+    def __init__(self, crates_folder, crates=CRATES, used=None):
+        """Of all that is in the crates; or of what is used of it."""
         self.crates = crates
+        self.used = used
         self.counts = collections.Counter()
         self.sources = {}
         self.ghosts = {}
@@ -132,6 +152,27 @@ class Eraser(Shorter):
     def has_items(self, source):
         kinds = ("use", "ghost use", "inner attribute")
         return any(item.kind not in kinds and not source.gone[item.end - 1] for item in source.items)
+
+    def is_unused(self, source, item, of=None):
+        """Whether the crate has no use for an item of a file, or for a function of a type."""
+        kinds = ("struct", "enum", "fn", "const", "impl")
+        if self.used is None or item.kind not in kinds or source.module == "lib":
+            return False
+        if item.kind == "impl":
+            name = f"{item.trait} for {item.name}"
+            return name not in self.named(source) if item.trait else all(self.is_unused(source, i, item) for i in item.items if i.kind == "fn")
+        return (f"{of.name}::{item.name}" if of else item.name) not in self.named(source)
+
+    def named(self, source):
+        return self.used.get(f"{source.crate}/{source.module}", ())
+
+    def leave_out(self, source, item):
+        self.counts["unused"] += 1
+        source.drop_lines(item.start, item.end)
+
+    def is_used_name(self, source, home):
+        """Whether the crate has a use for what the head of a crate offers."""
+        return self.used is None or source.module != "lib" or home[1] in self.named(source)
 
     # Which names are for proofs alone
 
@@ -257,6 +298,8 @@ class Eraser(Shorter):
                     source.refuse(item.start, "an attribute of a module")
                 self.counts["attribute of tactics"] += 1
                 source.drop_lines(item.start, item.end, comments=False)
+            elif self.is_unused(source, item):
+                self.leave_out(source, item)
             elif item.kind != "use":
                 self.erase_item(source, item)
 
@@ -298,6 +341,9 @@ class Eraser(Shorter):
             self.counts["written: reason of unsafe"] += 1
             source.insert(item.start, "// SAFETY: proved in the source.\n")
         for part in item.items:
+            if not item.trait and self.is_unused(source, part, item):
+                self.leave_out(source, part)
+                continue
             if item.trait == "Clone" and part.kind == "fn":
                 self.fallible_clone(source, part)
             self.erase_item(source, part)
@@ -511,6 +557,8 @@ class Eraser(Shorter):
             path, names = "", []
             for path, name, alias, (a, b) in self.use_parts(source, item):
                 if self.is_ghost(source, alias) or (source.scope[alias][0], name) in IN_EACH_FILE:
+                    continue
+                if not self.is_used_name(source, source.scope[alias]):
                     continue
                 if not item.public and alias not in kept and alias in told:
                     continue
@@ -766,19 +814,11 @@ def root_module(crates):
     lines = [
         "// Made by tools/erase/erase.py.",
         "",
-        "//! The pool, made from its proved sources: what is left of them without their contracts and proofs. What the contracts",
-        "//! require of a caller nothing here tests, so it is private, and the modules above take it over.",
-        "",
-        "// The sources are written for proofs: some names and values are there for them alone.",
-        "#![allow(dead_code, unused_imports, unused_mut, unused_variables)]",
-        "#![allow(" + ", ".join("clippy::" + name for name in CLIPPY) + ")]",
+        "//! Keys, shapes and lifecycle words, made from proved sources: what is left of them without their contracts and proofs, as far as the",
+        "//! crate uses it. What the contracts require of a caller nothing here tests, so it is private, and the modules above take it over.",
         "",
     ]
     return formatted("\n".join(lines + [f"pub(crate) mod {crate};" for crate in sorted(crates)]) + "\n")
-
-
-# What clippy would write otherwise.
-CLIPPY = ["drop_non_drop", "explicit_auto_deref", "result_large_err", "unnecessary_cast"]
 
 
 def formatted(text):
@@ -831,7 +871,7 @@ def main():
     parser.add_argument("--out", default=os.path.join(ROOT, "bindings", "rust", "src", "erased"))
     words = parser.parse_args()
     try:
-        eraser = Eraser(words.crates)
+        eraser = Eraser(words.crates, used=USED)
         texts = eraser.texts()
     except Refused as fault:
         sys.exit(f"refused: {fault}")

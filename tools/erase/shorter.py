@@ -54,7 +54,7 @@ ROW = (
 )
 # A function that answers where a lane's own word stands, which it looks at: its parameter and its body. And where the words begin that
 # steps change, in the same file: behind those of all lanes.
-LOOK_WORD = r"(?P<lane>\w+) : u32 -- (?P<apart>\w+) \* \( 1 \+ (?P=lane) as usize \)"
+LOOK_WORD = r"(?P<lane>\w+) : u32 -- (?P<apart>\w+) \* \( 1 \+ \( (?P=lane) % MOST_LANES \) as usize \)"
 LIVES_START = "const LIVES_START : usize = {} * ( 1 + MOST_LANES as usize ) ;"
 # A statement that asks a shape for a number, which nobody takes; and the parameters of a function that can't but answer.
 NUMBER = r"let _ = (?P<shape>\w+) \. (?P<name>\w+) \( (?:[\w+*] ?)+\) ;"

@@ -100,7 +100,7 @@ impl Pooled for Record {
 
 #[inline]
 fn put<T: Pooled>(lane: &Lane<T>) -> Key {
-    lane.create_with(T::fill).expect("a free place")
+    lane.put_with(T::fill).expect("a free place")
 }
 
 fn get_many<T: Pooled>(lane: &Lane<T>, keys: &[Key; MANY], rounds: usize) -> usize {
@@ -158,7 +158,7 @@ fn run<T: Pooled>(case: &str, threads: u32, rounds: usize) -> Option<usize> {
         ..Shape::default()
     })
     .ok()?;
-    let lanes: Vec<_> = (0..threads).filter_map(|_| pool.lane()).collect();
+    let lanes: Vec<_> = (0..threads).filter_map(|_| pool.lane().ok()).collect();
     match case {
         "get-many" | "get-shared" => {
             let shared = put(lanes.first()?);

@@ -1,9 +1,9 @@
-//! Threads that come and go make requests of one growing pool: each publishes a text, and reads and clears one that another thread
+//! Threads that come and go make requests of one pool: each publishes a text, and reads and clears one that another thread
 //! published.
 //!
 //!     cargo run --release --example come_and_go -- WAY THREADS REQUESTS
 //!
-//! - `lanes`: a thread takes a lane in hand where one is left, and else calls the pool;
+//! - `lanes`: each thread takes a lane in hand;
 //! - `calls`: all threads call the pool;
 //! - `owned`: fillings and references are owned, and are sent to the other thread.
 //!
@@ -122,11 +122,11 @@ fn work(caller: &Caller<'_>, board: &Board) {
 }
 
 fn come_and_go(way: &str, threads: u64, requests: u64) -> Option<bool> {
-    let pool = Pool::<String>::growing().ok()?;
+    let pool = Pool::<String>::new();
     let board = Board::new(4 * threads);
     let caller = || Caller {
         pool: &pool,
-        lane: (way == "lanes").then(|| pool.lane()).flatten(),
+        lane: (way == "lanes").then(|| pool.lane().expect("memory")),
         is_owned: way == "owned",
     };
     thread::scope(|scope| {

@@ -91,7 +91,7 @@ fn main() -> Result<(), Box<dyn std::error::Error>> {
             let stream = prepared(listener.accept()?.0)?;
             let other = stream.try_clone()?;
             let (to, from) = sync_channel(WAITING);
-            let (reader, writer) = (pool.lane().ok_or("no lane")?, pool.lane().ok_or("no lane")?);
+            let (reader, writer) = (pool.lane()?, pool.lane()?);
             served.push((
                 scope.spawn(|| read_from(reader, stream, to)),
                 scope.spawn(|| write_to(writer, other, from)),

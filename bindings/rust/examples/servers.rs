@@ -1,13 +1,13 @@
-//! Rounds of calls without a lane in hand, as `bench` times those with one. It reads no clock, but for `open`.
+//! Rounds of calls of a pool, as `bench` times those of lanes in hand. It reads no clock, but for `open`.
 //!
 //!     servers CASE THREADS ROUNDS
 //!
 //! - `get-many`: a get of one of 16 own keys in turn, a read of the length, a drop;
-//! - `far-get-many`: the same where 10,000 buffers are open, so that the keys are of a later segment;
+//! - `far-get-many`: the same where 10,000 buffers are open, so that the keys are of further pages;
 //! - `cycle`: a buffer of 64 bytes is filled and published, and cleared;
 //! - `owned-get-many`: as `get-many`, by owned references;
 //! - `hold`: so many buffers are published and stay open;
-//! - `open`: so many growing pools are opened and dropped, one after the other. Prints the time of one in nanoseconds.
+//! - `open`: so many pools are opened and dropped with one buffer each, one after the other. Prints the time of one in nanoseconds.
 //!
 //! Prints one number, so that the work is done.
 use pardz::{Buffer, Key, Pool};
@@ -61,7 +61,7 @@ fn run() -> Option<usize> {
         return None;
     };
     let (threads, rounds) = (threads.parse().ok()?, rounds.parse().ok()?);
-    let pool = Arc::new(Pool::<Buffer>::growing().ok()?);
+    let pool = Arc::new(Pool::<Buffer>::new());
     match case.as_str() {
         "get-many" => Some(on_threads(threads, || get_many(&pool, rounds))),
         "far-get-many" => {
@@ -76,7 +76,7 @@ fn run() -> Option<usize> {
         })),
         "open" => {
             let begin = Instant::now();
-            (0..rounds).for_each(|_| drop(Pool::<Buffer>::growing()));
+            (0..rounds).for_each(|_| _ = put(&Pool::new()));
             Some(begin.elapsed().as_nanos() as usize / rounds)
         }
         _ => None,

@@ -38,7 +38,7 @@ struct Tracer<'r> {
 impl<'r> Tracer<'r> {
     fn new(pool: &'r Pool<Span>) -> Option<Tracer<'r>> {
         Some(Tracer {
-            lane: pool.lane()?,
+            lane: pool.lane().ok()?,
             entered: RefCell::default(),
             closed: Cell::new(0),
             rows: Cell::new(0),

@@ -76,7 +76,7 @@ fn main() -> Result<(), Box<dyn std::error::Error>> {
     let (to_workers, written) = sync_channel(WAITING);
     let (to_sink, counted) = sync_channel(WAITING);
     let written = Mutex::new(written);
-    let lane = || pool.lane().ok_or("a lane for each thread");
+    let lane = || pool.lane();
     let (found, words) = thread::scope(|scope| {
         let source = lane()?;
         scope.spawn(move || write_jobs(&source, jobs, to_workers));
@@ -87,7 +87,7 @@ fn main() -> Result<(), Box<dyn std::error::Error>> {
         drop(to_sink);
         let sink = lane()?;
         let counted = scope.spawn(move || add_up(&sink, counted));
-        Ok::<_, &str>(counted.join().expect("no panic"))
+        Ok::<_, CreateError>(counted.join().expect("no panic"))
     })?;
     println!("{words} words in {found} jobs");
     assert_eq!(found, jobs);

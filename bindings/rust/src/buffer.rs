@@ -1,7 +1,7 @@
 //! Buffers of bytes.
+use crate::bytes::Bytes;
 use crate::clear::{Clear, Plain};
 use crate::errors::MemoryRefused;
-use crate::object::Bytes;
 use std::alloc::{handle_alloc_error, Layout};
 use std::borrow::{Borrow, BorrowMut};
 use std::fmt;
@@ -14,17 +14,16 @@ use std::ops::{Deref, DerefMut};
 /// (but for [`Extend`], which does so too).
 ///
 /// ```
-/// # use pardz::{Buffer, Pool, Shape};
+/// use pardz::{Buffer, Pool};
 /// use std::io::Write;
 ///
-/// let pool = Pool::<Buffer>::open(Shape::default())?;
-/// let lane = pool.lane().expect("a lane");
-/// let mut filling = lane.create()?;
+/// let pool = Pool::<Buffer>::new();
+/// let mut filling = pool.create()?;
 /// write!(filling, "{}-{}", 1, 2)?;
 /// filling.append(b"-3")?;
 /// assert_eq!(filling[..], *b"1-2-3");
 /// let key = filling.publish();
-/// assert_eq!(lane.get(key).expect("published")[..], *b"1-2-3");
+/// assert_eq!(pool.get(key).expect("published")[..], *b"1-2-3");
 /// # Ok::<(), Box<dyn std::error::Error>>(())
 /// ```
 #[derive(Default)]
@@ -150,10 +149,8 @@ impl Buffer {
     /// [`MemoryRefused`]: the bytes are then as before, and an earlier room has ended.
     ///
     /// ```
-    /// # use pardz::{Buffer, Pool, Shape};
-    /// # let pool = Pool::<Buffer>::open(Shape::default())?;
-    /// # let lane = pool.lane().expect("a lane");
-    /// let mut filling = lane.create()?;
+    /// # let pool = pardz::Pool::<pardz::Buffer>::new();
+    /// let mut filling = pool.create()?;
     /// let room = filling.room(1500)?;
     /// room[..5].copy_from_slice(b"hello"); // as a read from a socket does
     /// filling.wrote(5);
@@ -190,10 +187,8 @@ impl Buffer {
     /// Those of the reader; [`io::ErrorKind::OutOfMemory`] where memory was refused. The bytes are then as before.
     ///
     /// ```
-    /// # use pardz::{Buffer, Pool, Shape};
-    /// # let pool = Pool::<Buffer>::open(Shape::default())?;
-    /// # let lane = pool.lane().expect("a lane");
-    /// let mut filling = lane.create()?;
+    /// # let pool = pardz::Pool::<pardz::Buffer>::new();
+    /// let mut filling = pool.create()?;
     /// assert_eq!(filling.read_from(&mut &b"from a file"[..], 4096)?, 11);
     /// assert_eq!(filling[..], *b"from a file");
     /// # Ok::<(), Box<dyn std::error::Error>>(())

@@ -1,202 +1,285 @@
-//! Calls without a lane in hand.
+//! The calls on places.
 //!
-//! A thread's first call of a pool finds it a lane, which it keeps until it ends. Where all are taken, its first create has a growing
-//! pool open a segment with more. Where there are no more, where a segment hasn't the thread's lane, and for owned handles, a lane is
-//! shared: each call has it under a lock, within which no code of others runs, and what is held by it may be let go by any thread. To one
-//! owned handle at a time the thread lends its lane: then no lock is taken, unless the handle goes to another thread, or calls are made
-//! meanwhile.
+//! A create takes a place of a shard that its thread, or its lane, owns. All other calls find the place by the key, and step on its lifecycle
+//! word; who claims it empties the object, and gives the place back (`emptying`). So nobody needs anything of his own for them, and none
+//! waits.
 use crate::clear::Clear;
+use crate::emptying::Back;
+use crate::erased::keybits::{generation_of, State};
 use crate::errors::{CreateError, GetError};
-use crate::filling::{OwnedFilling, PoolFilling};
+use crate::inner::{Begun, Inner};
 use crate::key::Key;
-use crate::lanes::Spent;
-use crate::pool::Pool;
-use crate::reference::{OwnedRef, PoolRef};
+use crate::page::{Place, Unopened};
+use crate::registry::Wanted;
+use crate::shard::{Found, Shard};
+use crate::sync;
+use crate::thread::{self, Owner};
+use crate::word::{Claim, Entered, Taken};
+use std::mem;
+use std::ptr::NonNull;
 
-/// Calls without a lane in hand. The thread's first call finds it a lane, which is kept until the thread ends; where all are taken, its
-/// first create has a growing pool open a segment with more, up to 64. Where there are none, or the segment of a key hasn't the thread's
-/// lane, its calls share lanes, each under a lock for a bounded number of steps. They may be made anywhere: within `T::clear`, `Default`, `Drop`
-/// and closures, and while the thread ends.
-///
-/// A pool of [`open`](Pool::open) has a lane more than its shape, which is shared: so no call is refused where all lanes are in hand. Its
-/// places are counted as its pages are opened. If its shape has 7 lanes or more, more are shared as these calls need them: a quarter of all.
-///
-/// A pool of 64 lanes has none more. Where all 64 are in hand, a create answers [`CreateError::NoLane`], and a get or a clear panics; where
-/// one is at home, it is shared from then on.
-impl<T: Clear> Pool<T> {
-    /// Begins an empty object, to be filled and published. Where the thread's own shard is full it goes to one of the shared lanes, and
-    /// then to a further segment, if the pool grows; the other way round where many threads have lanes, or where thousands went there.
+impl<T> Inner<T> {
+    /// A free place of one of the shards in a ring, or else of a further one, which comes into the ring; and its shard.
     ///
-    /// # Errors
+    /// # Safety
     ///
-    /// [`CreateError::Full`] where no place is free, but in shards of other lanes that threads have; [`CreateError::Memory`] where memory was
-    /// refused; [`CreateError::NoLane`] where all lanes of a pool of 64 are in hand.
+    /// This is their owner.
+    pub(crate) unsafe fn take_of(
+        &self,
+        ring: NonNull<Shard>,
+        owner: Owner,
+    ) -> Result<(Found<T>, NonNull<Shard>), CreateError> {
+        let (mut at, mut wanted) = (ring, Wanted::Room);
+        loop {
+            // SAFETY: the shard lives as long as this, the caller owns it, and `T` is the pool's type.
+            match unsafe { at.as_ref().take_any(self.quota()) } {
+                Ok(found) => return Ok((found, at)),
+                Err(unopened) => wanted = unopened.wanted(wanted)?,
+            }
+            // SAFETY: the caller's.
+            at = unsafe { self.next_of(ring, at, owner, wanted) }?;
+        }
+    }
+
+    /// The next shard of a ring, or else a further one, which comes into it.
     ///
-    /// ```
-    /// use pardz::{Buffer, Pool};
-    /// use std::io::Write;
-    /// use std::thread;
+    /// # Safety
     ///
-    /// let pool = Pool::<Buffer>::growing()?;
-    /// let mut filling = pool.create()?;
-    /// write!(filling, "hello")?;
-    /// let key = filling.publish();
-    /// thread::scope(|scope| {
-    ///     for _ in 0..20 {
-    ///         scope.spawn(|| assert_eq!(*pool.get(key).expect("published"), *b"hello"));
-    ///     }
-    /// });
-    /// assert!(pool.clear(key));
-    /// # Ok::<(), Box<dyn std::error::Error>>(())
-    /// ```
+    /// This is their owner.
+    unsafe fn next_of(
+        &self,
+        ring: NonNull<Shard>,
+        at: NonNull<Shard>,
+        owner: Owner,
+        wanted: Wanted,
+    ) -> Result<NonNull<Shard>, CreateError> {
+        // SAFETY: the shard lives as long as this, and a ring has no null pointer.
+        let (shard, next) = unsafe {
+            let shard = at.as_ref();
+            (shard, NonNull::new_unchecked(shard.next().cast_mut()))
+        };
+        if next != ring {
+            return Ok(next);
+        }
+        let further = self.join(owner, wanted).map_err(CreateError::full)?;
+        // SAFETY: as above.
+        shard.link(unsafe { further.as_ref() });
+        Ok(further)
+    }
+
+    /// A free place for this thread.
     #[inline(always)]
-    pub fn create(&self) -> Result<PoolFilling<'_, T>, CreateError>
-    where
-        T: Default,
-    {
-        Ok(PoolFilling::new(self.room.create()?))
+    fn take(&self) -> Result<Found<T>, CreateError> {
+        if let Some(shard) = thread::last_shard(self.id()) {
+            // SAFETY: this thread owns it, and `T` is the pool's type.
+            if let Some(found) = unsafe { shard.as_ref().take() } {
+                return Ok(found);
+            }
+        }
+        self.take_apart()
     }
 
-    /// Fills an object, and publishes it. Where the closure panics nothing is published, and the place is free again.
+    #[cold]
+    #[inline(never)]
+    fn take_apart(&self) -> Result<Found<T>, CreateError> {
+        let owner = Owner::numbered_thread();
+        let (ring, is_kept) = self.ring(owner)?;
+        // SAFETY: this thread owns it.
+        let taken = unsafe { self.take_of(ring, owner) };
+        if !is_kept {
+            self.leave(ring);
+        }
+        let (found, shard) = taken?;
+        if is_kept && shard != ring {
+            thread::turn_to(self.id(), shard);
+        }
+        Ok(found)
+    }
+
+    /// A shard of this thread's, of its ring; and whether it keeps it. (Else it exits, or found no memory for its list, and has the shard for
+    /// one call.)
+    fn ring(&self, owner: Owner) -> Result<(NonNull<Shard>, bool), CreateError> {
+        let known = thread::last_shard(self.id()).or_else(|| thread::find_shard(self.id()));
+        match known {
+            Some(ring) => Ok((ring, true)),
+            None => {
+                let ring = self.join(owner, Wanted::Room)?;
+                Ok((ring, thread::keep(self.id(), self.registry(), ring)))
+            }
+        }
+    }
+
+    /// Sees to it that so many creates of this thread open no page.
+    pub(crate) fn reserve(&self, count: usize) -> Result<(), CreateError> {
+        let owner = Owner::numbered_thread();
+        let (ring, is_kept) = self.ring(owner)?;
+        if !is_kept {
+            self.leave(ring);
+            return Err(CreateError::Memory);
+        }
+        // SAFETY: this thread owns it.
+        unsafe { self.provide(ring, owner, count) }
+    }
+
+    /// The same for the shards of a ring.
     ///
-    /// # Errors
+    /// # Safety
     ///
-    /// As [`create`](Pool::create).
-    ///
-    /// ```
-    /// let pool = pardz::Pool::<Vec<u32>>::growing()?;
-    /// let key = pool.create_with(|list| list.extend(1..4))?;
-    /// assert_eq!(*pool.get(key).expect("published"), [1, 2, 3]);
-    /// # Ok::<(), Box<dyn std::error::Error>>(())
-    /// ```
+    /// This is their owner.
+    pub(crate) unsafe fn provide(
+        &self,
+        ring: NonNull<Shard>,
+        owner: Owner,
+        count: usize,
+    ) -> Result<(), CreateError> {
+        let (mut at, mut missing) = (ring, count);
+        loop {
+            // SAFETY: the shard lives as long as this, the caller owns it, and `T` is the pool's type.
+            let free = unsafe { at.as_ref().provide::<T>(missing, self.quota()) };
+            missing = missing.saturating_sub(free.map_err(Unopened::refusal)?);
+            if missing == 0 {
+                return Ok(());
+            }
+            // SAFETY: the caller's.
+            at = unsafe { self.next_of(ring, at, owner, Wanted::Room) }?;
+        }
+    }
+
+    /// Begins an object: in a place of this thread's shards.
     #[inline(always)]
-    pub fn create_with(&self, fill: impl FnOnce(&mut T)) -> Result<Key, CreateError>
-    where
-        T: Default,
-    {
-        let mut filling = self.create()?;
-        fill(&mut filling);
-        Ok(filling.publish())
+    pub(crate) fn create(&self, make: impl FnOnce() -> T) -> Result<Begun<T>, CreateError> {
+        let found = self.take()?;
+        // SAFETY: it was taken just now.
+        Ok(unsafe { self.begin(found, make, Owner::thread) })
     }
 
-    /// A reference to the object of a key. `None` where it isn't published, or is cleared, or is no key of this pool.
+    /// # Safety
     ///
-    /// # Panics
-    ///
-    /// Where the lane has 1,048,575 references, or all lanes of a pool of 64 are in hand.
-    ///
-    /// ```
-    /// let pool = pardz::Pool::<String>::growing()?;
-    /// let key = pool.put("abc")?;
-    /// let text = pool.get(key).expect("published");
-    /// assert!(pool.clear(key));
-    /// assert!(pool.get(key).is_none());
-    /// assert_eq!(*text, "abc"); // it stays until the reference is dropped
-    /// # Ok::<(), Box<dyn std::error::Error>>(())
-    /// ```
+    /// The place is one of this pool, and the caller's alone.
     #[inline(always)]
-    pub fn get(&self, key: Key) -> Option<PoolRef<'_, T>> {
-        Some(PoolRef::new(self.room.get(key)?))
+    pub(crate) unsafe fn begin(
+        &self,
+        (place, first_key): Found<T>,
+        make: impl FnOnce() -> T,
+        by: impl FnOnce() -> Owner,
+    ) -> Begun<T> {
+        // SAFETY: it lives as long as this.
+        let generation = match unsafe { place.as_ref() }.word.taken() {
+            Taken::Filled(generation) => generation,
+            // SAFETY: the caller's.
+            vacant => unsafe { self.fill((place, first_key), vacant, make, by()) },
+        };
+        (place, Key::at(first_key, generation))
     }
 
-    /// As [`get`](Pool::get), but for what that panics at.
-    ///
-    /// # Errors
-    ///
-    /// [`GetError::References`] where the lane has 1,048,575 references; [`GetError::NoLane`] where all lanes of a pool of 64 are in hand.
-    ///
-    /// ```
-    /// let pool = pardz::Pool::<String>::growing()?;
-    /// let key = pool.put("abc")?;
-    /// assert_eq!(*pool.try_get(key)?.expect("published"), "abc");
-    /// # Ok::<(), Box<dyn std::error::Error>>(())
-    /// ```
-    pub fn try_get(&self, key: Key) -> Result<Option<PoolRef<'_, T>>, GetError> {
-        let held = self.room.try_get(key)?;
-        Ok(held.map(|held| PoolRef::new(Spent::new(held))))
+    /// Puts an object into a place that has none.
+    #[cold]
+    #[inline(never)]
+    unsafe fn fill(
+        &self,
+        (place, first_key): Found<T>,
+        taken: Taken,
+        make: impl FnOnce() -> T,
+        by: Owner,
+    ) -> u64 {
+        // SAFETY: it lives as long as this.
+        let place = unsafe { place.as_ref() };
+        let generation = match taken {
+            Taken::Filled(generation) | Taken::Vacant(generation) => generation,
+            Taken::New => 1,
+        };
+        // Where `make` panics, the place is given back without an object.
+        let back = Back {
+            inner: self,
+            key: Key::at(first_key, generation),
+            claim: Claim::Reusable,
+            by,
+        };
+        if let Taken::New = taken {
+            place.word.begin(State::Retired);
+        }
+        let object = make();
+        mem::forget(back);
+        sync::writes(place.object(), "an object in its place");
+        // SAFETY: the place is the caller's alone, and has no object.
+        unsafe { place.object().write(object) };
+        match taken {
+            Taken::New => place.word.begin(State::Idle),
+            _ => place.word.occupy(),
+        }
+        generation
     }
 
-    /// Clears a key: no get finds it any more. Answers whether this call did. The object stays for those who have a reference; the last
-    /// of them empties it.
-    ///
-    /// # Panics
-    ///
-    /// Where all lanes of a pool of 64 are in hand.
-    ///
-    /// ```
-    /// let pool = pardz::Pool::<String>::growing()?;
-    /// let key = pool.put("abc")?;
-    /// assert!(pool.clear(key));
-    /// assert!(!pool.clear(key));
-    /// # Ok::<(), Box<dyn std::error::Error>>(())
-    /// ```
+    /// Whether the object of a key can be got.
+    #[inline]
+    pub(crate) fn contains(&self, key: Key) -> bool {
+        self.place(key).is_some_and(|it| it.word.has(key.number()))
+    }
+}
+
+impl<T: Clear> Inner<T> {
+    /// A reference.
     #[inline(always)]
-    pub fn clear(&self, key: Key) -> bool {
-        self.room.clear(key)
+    pub(crate) fn get(&self, key: Key) -> Result<Option<NonNull<Place<T>>>, GetError> {
+        let Some(place) = self.place(key) else {
+            return Ok(None);
+        };
+        match place.word.enter(key.number(), self.last_generation()) {
+            Entered::Held => Ok(Some(NonNull::from(place))),
+            Entered::Missed => Ok(None),
+            Entered::Refused => Err(GetError::References),
+            Entered::Claimed(claim) => {
+                // SAFETY: it was claimed just now.
+                unsafe { self.finish_apart(place, key, claim) };
+                Ok(None)
+            }
+        }
     }
 
-    /// As [`create`](Pool::create), of a filling that has a share of the pool's memory and may go to any thread.
-    ///
-    /// It takes the lock of a shared lane, and so does what ends it. But a thread with a lane lends that to one owned handle at a time, once
-    /// sixteen have ended there; then neither takes a lock, if it ends there. As long as it doesn't, other calls of the thread take one.
-    ///
-    /// # Errors
-    ///
-    /// As [`create`](Pool::create).
-    ///
-    /// ```
-    /// use pardz::Pool;
-    /// use std::thread;
-    ///
-    /// let pool = Pool::<String>::growing()?;
-    /// let mut filling = pool.create_owned()?;
-    /// let key = thread::spawn(move || {
-    ///     filling.push_str("abc");
-    ///     filling.publish()
-    /// });
-    /// assert_eq!(*pool.get(key.join().expect("no panic")).expect("published"), "abc");
-    /// # Ok::<(), Box<dyn std::error::Error>>(())
-    /// ```
+    /// Hides an object, and answers whether this call did.
     #[inline(always)]
-    pub fn create_owned(&self) -> Result<OwnedFilling<T>, CreateError>
-    where
-        T: Default,
-    {
-        Ok(OwnedFilling::new(self.room.create_owned()?))
+    pub(crate) fn clear(&self, key: Key, by: Owner) -> bool {
+        let Some(place) = self.place(key) else {
+            return false;
+        };
+        let (hides, claim) = place.word.clear(key.number(), self.last_generation());
+        if let Some(claim) = claim {
+            // SAFETY: it was claimed just now.
+            unsafe { self.finish(place, key, claim, by) };
+        }
+        hides
     }
 
-    /// As [`get`](Pool::get), of a reference that has a share of the pool's memory and may go to any thread.
+    /// Takes a reference back.
     ///
-    /// # Panics
+    /// # Safety
     ///
-    /// Where the shared lane has 1,048,575 references, or all lanes of a pool of 64 are in hand.
-    ///
-    /// Locks are taken as of [`create_owned`](Pool::create_owned).
-    ///
-    /// ```
-    /// use pardz::Pool;
-    /// use std::thread;
-    ///
-    /// let pool = Pool::<String>::growing()?;
-    /// let text = pool.get_owned(pool.put("abc")?).expect("published");
-    /// assert!(pool.clear(text.key()));
-    /// drop(pool);
-    /// thread::spawn(move || assert_eq!(*text, "abc")).join().expect("no panic");
-    /// # Ok::<(), Box<dyn std::error::Error>>(())
-    /// ```
+    /// It is the caller's, to this place, of this key.
     #[inline(always)]
-    pub fn get_owned(&self, key: Key) -> Option<OwnedRef<T>> {
-        let held = self.room.get_owned(key).unwrap_or_else(GetError::raise)?;
-        Some(OwnedRef::new(held))
+    pub(crate) unsafe fn release(&self, place: &Place<T>, key: Key) {
+        if let Some(claim) = place.word.leave(self.last_generation()) {
+            // SAFETY: it was claimed just now.
+            unsafe { self.finish_apart(place, key, claim) };
+        }
     }
 
-    /// As [`get_owned`](Pool::get_owned), but for what that panics at.
+    /// Takes a place back that was begun.
     ///
-    /// # Errors
+    /// # Safety
     ///
-    /// [`GetError::References`] where the shared lane has 1,048,575 references; [`GetError::NoLane`] where all lanes of a pool of 64 are in
-    /// hand.
-    pub fn try_get_owned(&self, key: Key) -> Result<Option<OwnedRef<T>>, GetError> {
-        Ok(self.room.get_owned(key)?.map(OwnedRef::new))
+    /// It is the caller's alone, and of this key.
+    #[cold]
+    pub(crate) unsafe fn abandon(&self, place: &Place<T>, key: Key) {
+        let generation = generation_of(key.number());
+        let claim = place.word.skip(generation, self.last_generation());
+        // SAFETY: the caller's.
+        unsafe { self.finish(place, key, claim, Owner::thread()) };
+    }
+
+    #[cold]
+    #[inline(never)]
+    unsafe fn finish_apart(&self, place: &Place<T>, key: Key, claim: Claim) {
+        // SAFETY: the caller's.
+        unsafe { self.finish(place, key, claim, Owner::thread()) };
     }
 }

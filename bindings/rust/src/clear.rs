@@ -27,13 +27,14 @@ pub trait Clear {
     /// Empties the object. It runs when the key was cleared and the last reference is gone, on the thread that let go last, before
     /// its call returns. (That call may also be a get or a clear of the key that was under way then, and finds nothing.)
     ///
-    /// It may call the pool again, by the same lane too. The object's place is free to be filled once it has returned. What it clears in its
-    /// own segment by the same lane is emptied in turn when it has returned: so a chain of any length needs no deeper stack. (Without memory
-    /// to let one wait, that is emptied at once, and dropped. What it clears in other segments is emptied at once, and so is what
-    /// it clears where it empties a filling that is dropped.) Where it panics the object is dropped, and its place is free all the same;
-    /// if that drop panics as well, the process aborts. Where
-    /// it runs since the thread unwinds already, and panics, that second panic goes no further. Neither does one where another one of the
-    /// same call is handed on. The payload of such a panic is leaked, as its drop might panic in turn.
+    /// Whoever calls it has the object alone, and nothing of the pool is borrowed meanwhile: it may call the pool again, block or panic. The place
+    /// is free to be filled once it has returned. What it clears of its own pool is emptied when it has returned, by the same call: so a chain
+    /// of any length needs no deeper stack. (Without memory to let one wait, that is emptied at once.)
+    ///
+    /// Where it panics the object is dropped, and its place is free all the same. Of several panics of one call the first is handed on; where the
+    /// thread unwinds already, none is. The payload of one that goes no further is leaked, as its drop might panic in turn.
+    ///
+    /// A field that it forgets keeps what it had: the next who creates in the place finds it there.
     fn clear(&mut self);
 
     /// Whether nothing needs to be looked for as it runs.
@@ -47,20 +48,11 @@ pub trait Clear {
     }
 }
 
-/// Whether a type's `clear` and its `default` run no code but this crate's and the standard library's: they neither panic nor call a pool,
-/// nor ask for or free memory. So nobody looks for that, they may run under a lane's lock, and an object is emptied as it is filled again. Nor
-/// does its drop panic. (A type of this crate alone can say so.)
+/// Whether a type's `clear` runs no code but this crate's and the standard library's, neither panics nor calls a pool, and clears nothing: so
+/// nobody looks for that. (A type of this crate alone can say so.)
 #[doc(hidden)]
 #[derive(Clone, Copy)]
 pub struct Plain(pub(crate) bool);
-
-#[cfg(pardz_explore)]
-impl Plain {
-    /// For the objects of scenarios, of which no other code runs.
-    pub fn of(is_plain: bool) -> Plain {
-        Plain(is_plain)
-    }
-}
 
 /// Keeps its capacity.
 impl<T> Clear for Vec<T> {

@@ -1,5 +1,6 @@
 //! What calls answer where they can't do what was asked.
-use crate::erased::shardpool::{CreateFault, OpenFault};
+use crate::page::Unopened;
+use crate::registry::Wanted;
 use std::error::Error;
 use std::{fmt, io};
 
@@ -7,10 +8,26 @@ use std::{fmt, io};
 #[derive(Clone, Copy, Debug, PartialEq, Eq)]
 #[non_exhaustive]
 pub enum OpenError {
-    /// The shape is outside its limits.
-    Shape,
-    /// Memory was refused.
-    Memory,
+    /// This field of the shape, or of the limits, is the first that is outside its own limits.
+    Shape(Field),
+}
+
+/// A field of a [`Shape`](crate::Shape) or of [`Limits`](crate::Limits).
+#[derive(Clone, Copy, Debug, PartialEq, Eq)]
+#[non_exhaustive]
+pub enum Field {
+    /// How many lanes, or shards.
+    Lanes,
+    /// The places of a shard's first page.
+    FirstPage,
+    /// The pages of a shard.
+    Pages,
+    /// The last generation.
+    LastGeneration,
+    /// The tag, or the number of tags.
+    Tag,
+    /// How many places.
+    Places,
 }
 
 /// Why no filling is begun, or nothing is put into a pool.
@@ -18,9 +35,8 @@ pub enum OpenError {
 /// ```
 /// # use pardz::{CreateError, OpenError, Pool, Shape};
 /// # let pool = Pool::<String>::open(Shape { lanes: 1, first_page: 1, pages: 1, ..Shape::default() })?;
-/// # let lane = pool.lane().expect("a lane");
-/// lane.put("the one place").expect("free");
-/// match lane.put("more") {
+/// let key = pool.put("the one place").expect("free");
+/// match pool.put("more") {
 ///     Ok(_) => unreachable!("no place is free"),
 ///     Err(CreateError::Full) => println!("clear something first"),
 ///     Err(error) => panic!("{error}"),
@@ -32,29 +48,64 @@ pub enum OpenError {
 #[non_exhaustive]
 #[repr(usize)]
 pub enum CreateError {
-    /// No place of the lane is free.
+    /// No place is free in the thread's own shards, or the lane's, and there is no further shard with one that nobody has.
     Full,
     /// Memory was refused.
     Memory,
-    /// The call was made without a lane, and all 64 lanes of the pool are in hand.
+    /// The thread has no shard, or a lane was asked for, and each shard that the pool may have is another's.
     NoLane,
 }
 
-/// Why a get can't look, though the key may be published. Nothing is changed.
+impl CreateError {
+    /// For who has a shard already.
+    pub(crate) fn full(self) -> CreateError {
+        match self {
+            CreateError::NoLane => CreateError::Full,
+            error => error,
+        }
+    }
+}
+
+impl Unopened {
+    /// Which further shards are to be looked at, if memory wasn't refused: those with places, once the pool may open no more.
+    pub(crate) fn wanted(self, before: Wanted) -> Result<Wanted, CreateError> {
+        match self {
+            Unopened::NoPage => Ok(before),
+            Unopened::NoPlaces => Ok(Wanted::Places),
+            Unopened::Memory => Err(CreateError::Memory),
+        }
+    }
+
+    /// For who needs the page.
+    pub(crate) fn refusal(self) -> CreateError {
+        match self {
+            Unopened::Memory => CreateError::Memory,
+            Unopened::NoPage | Unopened::NoPlaces => CreateError::Full,
+        }
+    }
+}
+
+/// Why a get can't look, or a reference isn't cloned. Nothing is changed.
 #[derive(Clone, Copy, Debug, PartialEq, Eq)]
 #[non_exhaustive]
 pub enum GetError {
-    /// The lane has 1,048,575 references in the key's segment, the most.
+    /// There are 268,435,456 references to the object, the most.
     References,
-    /// The call was made without a lane, and all 64 lanes of the pool are in hand.
-    NoLane,
 }
 
 impl GetError {
     /// For calls that panic where they can't look.
+    #[inline(always)]
+    pub(crate) fn raised<V>(result: Result<V, GetError>) -> V {
+        match result {
+            Ok(value) => value,
+            Err(error) => error.raise(),
+        }
+    }
+
     #[cold]
     #[inline(never)]
-    pub(crate) fn raise<R>(self) -> R {
+    fn raise(self) -> ! {
         panic!("{self}")
     }
 }
@@ -69,9 +120,14 @@ pub struct KeyError;
 
 impl fmt::Display for OpenError {
     fn fmt(&self, f: &mut fmt::Formatter<'_>) -> fmt::Result {
-        f.write_str(match self {
-            OpenError::Shape => "the shape is outside its limits",
-            OpenError::Memory => "memory was refused",
+        let OpenError::Shape(field) = self;
+        f.write_str(match field {
+            Field::Lanes => "the number of lanes is outside its limits",
+            Field::FirstPage => "the size of the first page is not 1, 2, 4, 8, 16, 32 or 64",
+            Field::Pages => "the number of pages is not from 1 to 16",
+            Field::LastGeneration => "the last generation is 0",
+            Field::Tag => "the tag is over 255, or there is none",
+            Field::Places => "the most places are 0",
         })
     }
 }
@@ -79,9 +135,9 @@ impl fmt::Display for OpenError {
 impl fmt::Display for CreateError {
     fn fmt(&self, f: &mut fmt::Formatter<'_>) -> fmt::Result {
         f.write_str(match self {
-            CreateError::Full => "no place of the lane is free",
+            CreateError::Full => "no place is free",
             CreateError::Memory => "memory was refused",
-            CreateError::NoLane => "all lanes of the pool are in hand",
+            CreateError::NoLane => "all shards of the pool are others'",
         })
     }
 }
@@ -89,8 +145,7 @@ impl fmt::Display for CreateError {
 impl fmt::Display for GetError {
     fn fmt(&self, f: &mut fmt::Formatter<'_>) -> fmt::Result {
         f.write_str(match self {
-            GetError::References => "the lane has 1,048,575 references",
-            GetError::NoLane => "all lanes of the pool are in hand",
+            GetError::References => "there are 268,435,456 references to the object",
         })
     }
 }
@@ -112,31 +167,6 @@ impl Error for CreateError {}
 impl Error for GetError {}
 impl Error for MemoryRefused {}
 impl Error for KeyError {}
-
-impl From<OpenFault> for OpenError {
-    fn from(fault: OpenFault) -> OpenError {
-        match fault {
-            OpenFault::Shape(_) => OpenError::Shape,
-            OpenFault::Memory => OpenError::Memory,
-        }
-    }
-}
-
-impl From<MemoryRefused> for OpenError {
-    fn from(_: MemoryRefused) -> OpenError {
-        OpenError::Memory
-    }
-}
-
-impl From<CreateFault> for CreateError {
-    #[inline]
-    fn from(fault: CreateFault) -> CreateError {
-        match fault {
-            CreateFault::Full => CreateError::Full,
-            CreateFault::Memory => CreateError::Memory,
-        }
-    }
-}
 
 impl From<MemoryRefused> for CreateError {
     fn from(_: MemoryRefused) -> CreateError {

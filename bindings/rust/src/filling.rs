@@ -1,150 +1,40 @@
 //! Fillings.
 use crate::buffer::Buffer;
 use crate::clear::Clear;
+use crate::held::Unpublished;
 use crate::key::Key;
-use crate::lanes::{Begun, FarBegun, InHand, OfThread, Spent};
-use crate::reference::{OwnedRef, PoolRef, Ref};
+use crate::reference::{OwnedRef, Ref};
+use crate::share::{Lent, Share};
 use std::borrow::{Borrow, BorrowMut};
 use std::fmt;
 use std::io;
 use std::ops::{Deref, DerefMut};
 
-/// An empty object, to be filled and published. It is used as a `&mut T`.
+/// An empty object, to be filled and published, on whichever thread. It is used as a `&mut T`.
 ///
 /// One that is dropped without a publish gives its place back: the object is emptied, and its key used up, so that it never names
-/// another one. (For that it is published and cleared at once. Who guesses the key could get the emptied object in between.) One that
-/// is leaked keeps its place until the pool ends, which drops the object. (If that is by [`Pool::close`](crate::Pool::close), the pool's row
-/// of places isn't freed then.)
+/// anything. One that is forgotten ([`std::mem::forget`]) keeps its place until the pool ends, which drops the object.
 ///
 /// ```
-/// # use pardz::{Pool, Shape};
-/// # let pool = Pool::<Vec<u8>>::open(Shape::default())?;
-/// # let lane = pool.lane().expect("a lane");
-/// let mut filling = lane.create()?;
-/// filling.extend([1, 2, 3]);
-/// let key = filling.key();
-/// assert!(lane.get(key).is_none()); // not yet
-/// assert_eq!(filling.publish(), key);
-/// assert_eq!(lane.get(key).expect("published").len(), 3);
-/// # Ok::<(), Box<dyn std::error::Error>>(())
-/// ```
-#[must_use = "a filling that is dropped isn't published"]
-pub struct Filling<'l, T: Clear = Buffer> {
-    begun: Spent<Begun<'l, T, InHand<T>>>,
-}
-
-impl<'l, T: Clear> Filling<'l, T> {
-    #[inline(always)]
-    pub(crate) fn new(begun: Spent<Begun<'l, T, InHand<T>>>) -> Filling<'l, T> {
-        Filling { begun }
-    }
-
-    /// The key under which it will be published.
-    #[inline]
-    pub fn key(&self) -> Key {
-        self.begun.key()
-    }
-
-    /// Publishes: from now on each lane finds the object under the key.
-    #[inline(always)]
-    pub fn publish(self) -> Key {
-        self.begun.into_inner().publish()
-    }
-
-    /// Publishes, and keeps a reference.
-    ///
-    /// # Panics
-    ///
-    /// Where the lane has 1,048,575 references; nothing is published then.
-    ///
-    /// ```
-    /// # use pardz::{Pool, Shape};
-    /// # let pool = Pool::<String>::open(Shape::default())?;
-    /// # let lane = pool.lane().expect("a lane");
-    /// let mut filling = lane.create()?;
-    /// filling.push_str("abc");
-    /// let text = filling.downgrade();
-    /// assert_eq!(*text, "abc");
-    /// # Ok::<(), Box<dyn std::error::Error>>(())
-    /// ```
-    #[inline]
-    pub fn downgrade(self) -> Ref<'l, T> {
-        Ref::new(self.begun.into_inner().downgrade())
-    }
-
-    /// Leaves the place as it is: it is lost until the pool is closed, and counted there as filling. The object is emptied, and used
-    /// in another place.
-    ///
-    /// It costs nothing, where a drop makes a publish and a clear.
-    ///
-    /// ```
-    /// # use pardz::{Pool, Shape};
-    /// let pool = Pool::<String>::open(Shape { lanes: 1, first_page: 1, pages: 1, ..Shape::default() })?;
-    /// let lane = pool.lane().expect("a lane");
-    /// drop(lane.create()?);
-    /// lane.create()?.forget();
-    /// assert!(lane.create().is_err());
-    /// drop(lane);
-    /// assert_eq!(pool.close().filling, 1);
-    /// # Ok::<(), Box<dyn std::error::Error>>(())
-    /// ```
-    #[doc(alias = "leave")]
-    pub fn forget(self) {
-        self.begun.into_inner().forget();
-    }
-}
-
-/// An empty object that a call of a [`Pool`](crate::Pool) began, to be filled and published: as a [`Filling`] of a lane in hand.
-///
-/// ```
-/// let pool = pardz::Pool::<Vec<u8>>::growing()?;
+/// let pool = pardz::Pool::<Vec<u8>>::new();
 /// let mut filling = pool.create()?;
 /// filling.extend([1, 2, 3]);
-/// assert!(pool.get(filling.key()).is_none()); // not yet
-/// let list = filling.downgrade();
-/// assert_eq!(*list, [1, 2, 3]);
+/// let key = filling.key();
+/// assert!(pool.get(key).is_none()); // not yet
+/// assert_eq!(filling.publish(), key);
+/// assert_eq!(pool.get(key).expect("published").len(), 3);
 /// drop(pool.create()?); // not published: its place is free again
 /// # Ok::<(), Box<dyn std::error::Error>>(())
 /// ```
 #[must_use = "a filling that is dropped isn't published"]
-pub struct PoolFilling<'p, T: Clear = Buffer> {
-    begun: Spent<Begun<'p, T, OfThread<T>>>,
+pub struct Filling<'p, T: Clear = Buffer> {
+    begun: Unpublished<T, Lent<'p, T>>,
 }
 
-impl<'p, T: Clear> PoolFilling<'p, T> {
-    #[inline(always)]
-    pub(crate) fn new(begun: Spent<Begun<'p, T, OfThread<T>>>) -> PoolFilling<'p, T> {
-        PoolFilling { begun }
-    }
-
-    /// The key under which it will be published.
-    #[inline]
-    pub fn key(&self) -> Key {
-        self.begun.key()
-    }
-
-    /// Publishes: from now on each call finds the object under the key.
-    #[inline(always)]
-    pub fn publish(self) -> Key {
-        self.begun.into_inner().publish()
-    }
-
-    /// Publishes, and keeps a reference.
-    ///
-    /// # Panics
-    ///
-    /// Where the lane has 1,048,575 references; nothing is published then.
-    #[inline]
-    pub fn downgrade(self) -> PoolRef<'p, T> {
-        PoolRef::new(self.begun.into_inner().downgrade())
-    }
-}
-
-/// An empty object, to be filled and published, with a share of the pool's memory: it may go to any thread, and is published or dropped
-/// there.
+/// A filling with a share of the pool's memory, in place of a borrow.
 ///
 /// ```
-/// let pool = pardz::Pool::<String>::growing()?;
+/// let pool = pardz::Pool::<String>::new();
 /// let mut filling = pool.create_owned()?;
 /// filling.push_str("abc");
 /// let text = filling.downgrade();
@@ -153,30 +43,45 @@ impl<'p, T: Clear> PoolFilling<'p, T> {
 /// ```
 #[must_use = "a filling that is dropped isn't published"]
 pub struct OwnedFilling<T: Clear = Buffer> {
-    begun: FarBegun<T>,
+    begun: Unpublished<T, Share<T>>,
 }
 
-impl<T: Clear> OwnedFilling<T> {
+impl<'p, T: Clear> Filling<'p, T> {
     #[inline(always)]
-    pub(crate) fn new(begun: FarBegun<T>) -> OwnedFilling<T> {
-        OwnedFilling { begun }
-    }
-
-    /// The key under which it will be published.
-    pub fn key(&self) -> Key {
-        self.begun.key()
-    }
-
-    /// Publishes: from now on each call finds the object under the key.
-    pub fn publish(self) -> Key {
-        self.begun.publish()
+    pub(crate) fn new(begun: Unpublished<T, Lent<'p, T>>) -> Filling<'p, T> {
+        Filling { begun }
     }
 
     /// Publishes, and keeps a reference.
     ///
-    /// # Panics
-    ///
-    /// Where the lane has 1,048,575 references; nothing is published then.
+    /// ```
+    /// let pool = pardz::Pool::<String>::new();
+    /// let mut filling = pool.create()?;
+    /// filling.push_str("abc");
+    /// let text = filling.downgrade();
+    /// assert_eq!(*text, "abc");
+    /// # Ok::<(), Box<dyn std::error::Error>>(())
+    /// ```
+    #[inline]
+    pub fn downgrade(self) -> Ref<'p, T> {
+        Ref::new(self.begun.downgrade())
+    }
+
+    /// The same filling, with a share of the pool's memory in place of the borrow.
+    pub fn into_owned(self) -> OwnedFilling<T> {
+        // SAFETY: the share is one of the pool that was borrowed.
+        OwnedFilling::new(unsafe { self.begun.kept_by(|lent| Share::of(*lent)) })
+    }
+}
+
+impl<T: Clear> OwnedFilling<T> {
+    #[inline(always)]
+    pub(crate) fn new(begun: Unpublished<T, Share<T>>) -> OwnedFilling<T> {
+        OwnedFilling { begun }
+    }
+
+    /// Publishes, and keeps a reference.
+    #[inline]
     pub fn downgrade(self) -> OwnedRef<T> {
         OwnedRef::new(self.begun.downgrade())
     }
@@ -185,6 +90,20 @@ impl<T: Clear> OwnedFilling<T> {
 /// What fillings do as their objects do it.
 macro_rules! fills_as_its_object {
     ($name:literal, $($of:tt)*) => {
+        impl<T: Clear> $($of)* {
+            /// The key under which it will be published.
+            #[inline]
+            pub fn key(&self) -> Key {
+                self.begun.key()
+            }
+
+            /// Publishes: from now on each call finds the object under the key.
+            #[inline(always)]
+            pub fn publish(self) -> Key {
+                self.begun.publish()
+            }
+        }
+
         impl<T: Clear> Deref for $($of)* {
             type Target = T;
 
@@ -281,5 +200,4 @@ macro_rules! fills_as_its_object {
 }
 
 fills_as_its_object!("Filling", Filling<'_, T>);
-fills_as_its_object!("PoolFilling", PoolFilling<'_, T>);
 fills_as_its_object!("OwnedFilling", OwnedFilling<T>);

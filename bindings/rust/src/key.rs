@@ -1,5 +1,5 @@
 //! Keys.
-use crate::erased::keybits::{place_of, shard_of};
+use crate::erased::keybits;
 use crate::errors::KeyError;
 use std::fmt;
 use std::num::NonZeroU64;
@@ -10,6 +10,9 @@ use std::str::FromStr;
 ///
 /// It is told and read back as a number, and isn't 0: so an `Option<Key>` has 8 bytes. A number that is no key of a pool finds
 /// nothing there.
+///
+/// From the lowest bit on it has the slot (12 bits), the page (4), the shard (8), the generation (32) and the tag (8): so the lowest 24
+/// name the place, by which a table of the program's own may be kept.
 ///
 /// ```
 /// use pardz::Key;
@@ -23,23 +26,41 @@ use std::str::FromStr;
 /// # Ok::<(), pardz::KeyError>(())
 /// ```
 #[derive(Clone, Copy, Debug, PartialEq, Eq, Hash, PartialOrd, Ord)]
+#[must_use = "an object is found and cleared by its key"]
 #[repr(transparent)]
 pub struct Key(NonZeroU64);
 
+/// Where a key has its generation.
+const GENERATION: u32 = 24;
+
 impl Key {
-    /// A key that the pool gave. It has a generation from 1 on, in the bits 24 to 55, so that it isn't 0.
-    #[inline]
-    pub(crate) fn proved(number: u64) -> Key {
+    /// The key of generation 1 of a place.
+    pub(crate) fn first(tag: u8, shard: u8, page: usize, slot: usize) -> u64 {
+        let place = keybits::Place {
+            shard,
+            page: page as u8,
+            slot: slot as u16,
+        };
+        match keybits::Key::pack_tagged(tag, place, 1) {
+            Some(key) => key.number(),
+            None => unreachable!("a key has room for each place of a pool"),
+        }
+    }
+
+    /// The key of a place at a generation from 1 on; the first one is that of generation 1.
+    #[inline(always)]
+    pub(crate) fn at(first: u64, generation: u64) -> Key {
+        debug_assert!(first >> GENERATION != 0 && (1..=u64::from(u32::MAX)).contains(&generation));
+        let number = first + ((generation - 1) << GENERATION);
         match NonZeroU64::new(number) {
             Some(number) => Key(number),
             None => unreachable!("a key has a generation"),
         }
     }
 
-    /// The number of the lane whose place it has.
     #[inline(always)]
-    pub(crate) fn shard(self) -> u32 {
-        shard_of(place_of(self.0.get()))
+    pub(crate) fn number(self) -> u64 {
+        self.0.get()
     }
 }
 

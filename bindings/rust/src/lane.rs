@@ -3,93 +3,165 @@ use crate::buffer::Buffer;
 use crate::clear::Clear;
 use crate::errors::{CreateError, GetError};
 use crate::filling::Filling;
+use crate::held::{Held, Unpublished};
 use crate::key::Key;
-use crate::lanes::{Hand, Spent};
 use crate::pool::Pool;
+use crate::put::Put;
 use crate::reference::Ref;
+use crate::registry::Wanted;
+use crate::shard::{Found, Shard};
+use crate::share::Lent;
+use crate::thread::Owner;
+use std::cell::Cell;
 use std::fmt;
+use std::ptr::NonNull;
 use std::sync::Arc;
 
-/// The right of one thread at a time to call a pool. It may move to another thread (`Send`), and isn't shared (not `Sync`): a
-/// thread takes a lane of its own.
-///
-/// A lane may have 1,048,575 references at once in each segment. It comes home to its pool when it is dropped; and so do the further lanes
-/// that it may take in a large pool that [grows](Pool::growing).
+/// A shard in hand: places of its own for creates, which look for nothing that their thread has. It may move to another thread ([`Send`]), and
+/// isn't shared (not [`Sync`]). What it creates, others get and clear; its shard goes to others when it is dropped.
 ///
 /// ```
-/// use pardz::{Pool, Shape};
+/// use pardz::Pool;
 /// use std::thread;
 ///
-/// let pool = Pool::<String>::open(Shape { lanes: 2, ..Shape::default() })?;
-/// let (lane, other) = (pool.lane().expect("two"), pool.lane().expect("two"));
-/// assert!(pool.lane().is_none());
-/// assert_eq!((lane.number(), other.number()), (0, 1));
-/// let key = lane.put("from here").expect("a place");
+/// let pool = Pool::<String>::new();
+/// let (lane, other) = (pool.lane()?, pool.lane()?);
+/// let key = lane.put("from here")?;
 /// thread::scope(|scope| {
 ///     scope.spawn(move || {
 ///         let text = other.get(key).expect("published");
-///         assert_eq!(other.references(), 1);
 ///         assert_eq!(text.key(), key);
+///         assert!(other.clear(key));
 ///     });
 /// });
-/// assert_eq!(pool.lane().expect("the other came home").number(), 1);
-/// # Ok::<(), pardz::OpenError>(())
+/// assert!(pool.get(key).is_none());
+/// # Ok::<(), pardz::CreateError>(())
 /// ```
 pub struct Lane<'p, T: Clear = Buffer> {
-    hand: Hand<'p, T>,
+    lent: Lent<'p, T>,
+    owner: Owner,
+    /// One of its ring of shards: that of which it had a place last.
+    shard: Cell<NonNull<Shard>>,
+}
+
+// SAFETY: it owns its shards by a number of its own, wherever it is.
+unsafe impl<T: Clear + Send + Sync> Send for Lane<'_, T> {}
+
+/// A lane in hand with a share of the pool, as by an [`Arc`]. What its calls give borrows it.
+///
+/// ```
+/// use pardz::{OwnedLane, Pool};
+/// use std::sync::Arc;
+/// use std::thread;
+///
+/// let pool = Arc::new(Pool::<String>::new());
+/// let lane: OwnedLane<String> = pool.lane_owned()?;
+/// let key = thread::spawn(move || lane.put("abc")).join().expect("no panic")?;
+/// assert_eq!(*pool.get(key).expect("published"), "abc");
+/// # Ok::<(), pardz::CreateError>(())
+/// ```
+pub struct OwnedLane<T: Clear + 'static = Buffer> {
+    /// (Dropped first.)
+    lane: Lane<'static, T>,
+    pool: Arc<Pool<T>>,
+}
+
+impl<T: Clear> Pool<T> {
+    /// A lane in hand.
+    ///
+    /// # Errors
+    ///
+    /// [`CreateError::NoLane`] where each shard that the pool may have is another lane's or a thread's, [`CreateError::Memory`] where memory was
+    /// refused.
+    ///
+    /// ```
+    /// use pardz::{CreateError, Pool, Shape};
+    ///
+    /// let pool = Pool::<Vec<u8>>::open(Shape { lanes: 1, ..Shape::default() })?;
+    /// let lane = pool.lane()?;
+    /// assert_eq!(pool.lane().err(), Some(CreateError::NoLane));
+    /// drop(lane);
+    /// assert!(pool.lane().is_ok());
+    /// # Ok::<(), Box<dyn std::error::Error>>(())
+    /// ```
+    pub fn lane(&self) -> Result<Lane<'_, T>, CreateError> {
+        let lent = self.lent_or_open()?;
+        let owner = Owner::new();
+        let shard = lent.join(owner, Wanted::Any)?;
+        Ok(Lane {
+            lent,
+            owner,
+            shard: Cell::new(shard),
+        })
+    }
+
+    /// A lane in hand with a share of the pool.
+    ///
+    /// # Errors
+    ///
+    /// As of [`lane`](Pool::lane).
+    pub fn lane_owned(self: &Arc<Self>) -> Result<OwnedLane<T>, CreateError>
+    where
+        T: 'static,
+    {
+        // SAFETY: the owned lane has the pool as long as this lane, which it lends for no longer.
+        let pool: &'static Pool<T> = unsafe { &*Arc::as_ptr(self) };
+        Ok(OwnedLane {
+            lane: pool.lane()?,
+            pool: Arc::clone(self),
+        })
+    }
 }
 
 impl<'p, T: Clear> Lane<'p, T> {
-    pub(crate) fn lent(pool: &'p Pool<T>) -> Option<Lane<'p, T>> {
-        let hand = Hand::lent(pool)?;
-        Some(Lane { hand })
-    }
-
-    pub(crate) fn owned(pool: &Arc<Pool<T>>) -> Option<Lane<'static, T>> {
-        let hand = Hand::owned(pool)?;
-        Some(Lane { hand })
-    }
-
     /// Begins an empty object, to be filled and published.
     ///
     /// # Errors
     ///
-    /// [`CreateError::Full`] where no place of the lane is free, [`CreateError::Memory`] where memory was refused.
-    ///
-    /// ```
-    /// # use pardz::{Buffer, CreateError, OpenError, Pool, Shape};
-    /// let pool = Pool::<Buffer>::open(Shape { lanes: 1, first_page: 1, pages: 1, ..Shape::default() })?;
-    /// let lane = pool.lane().expect("a lane");
-    /// let key = lane.create().expect("one place").publish();
-    /// assert_eq!(lane.create().err(), Some(CreateError::Full));
-    /// assert!(lane.clear(key));
-    /// assert!(lane.create().is_ok());
-    /// # Ok::<(), OpenError>(())
-    /// ```
+    /// [`CreateError::Full`] where no place is free in the lane's shards, and nobody left one with a free place; [`CreateError::Memory`] where
+    /// memory was refused.
     #[inline(always)]
-    pub fn create(&self) -> Result<Filling<'_, T>, CreateError>
+    pub fn create(&self) -> Result<Filling<'p, T>, CreateError>
     where
         T: Default,
     {
-        Ok(Filling::new(self.hand.create()?))
+        self.create_with(T::default)
+    }
+
+    /// The same, of a type without [`Default`]: where the place has no object, it gets what `make` answers.
+    ///
+    /// # Errors
+    ///
+    /// As of [`create`](Lane::create).
+    #[inline(always)]
+    pub fn create_with(&self, make: impl FnOnce() -> T) -> Result<Filling<'p, T>, CreateError> {
+        // SAFETY: the lane owns the shard, which is one of this pool.
+        let found = match unsafe { self.shard.get().as_ref().take() } {
+            Some(found) => found,
+            None => self.take_apart()?,
+        };
+        // SAFETY: it was taken just now, and is begun and filled once, in this pool.
+        let begun = unsafe { self.lent.begin(found, make, || self.owner) };
+        // SAFETY: as above.
+        Ok(Filling::new(unsafe { Unpublished::of(begun, self.lent) }))
+    }
+
+    #[cold]
+    #[inline(never)]
+    fn take_apart(&self) -> Result<Found<T>, CreateError> {
+        // SAFETY: the lane owns the shards of the ring.
+        let (found, shard) = unsafe { self.lent.take_of(self.shard.get(), self.owner) }?;
+        self.shard.set(shard);
+        Ok(found)
     }
 
     /// Fills an object, and publishes it. Where the closure panics nothing is published, and the place is free again.
     ///
     /// # Errors
     ///
-    /// As [`create`](Lane::create).
-    ///
-    /// ```
-    /// # use pardz::{Pool, Shape};
-    /// let pool = Pool::<Vec<u32>>::open(Shape::default())?;
-    /// let lane = pool.lane().expect("a lane");
-    /// let key = lane.create_with(|list| list.extend(1..4))?;
-    /// assert_eq!(*lane.get(key).expect("published"), [1, 2, 3]);
-    /// # Ok::<(), Box<dyn std::error::Error>>(())
-    /// ```
+    /// As of [`create`](Lane::create).
     #[inline(always)]
-    pub fn create_with(&self, fill: impl FnOnce(&mut T)) -> Result<Key, CreateError>
+    pub fn put_with(&self, fill: impl FnOnce(&mut T)) -> Result<Key, CreateError>
     where
         T: Default,
     {
@@ -98,72 +170,122 @@ impl<'p, T: Clear> Lane<'p, T> {
         Ok(filling.publish())
     }
 
-    /// A reference to the object of a key. `None` where it isn't published, or is cleared, or is no key of this pool.
-    ///
-    /// # Panics
-    ///
-    /// Where the lane has 1,048,575 references.
-    ///
-    /// ```
-    /// # use pardz::{Key, Pool, Shape};
-    /// # let pool = Pool::<String>::open(Shape::default())?;
-    /// let (one, other) = (pool.lane().expect("a lane"), pool.lane().expect("a second"));
-    /// let key = one.create()?.publish();
-    /// let first = other.get(key).expect("it is published");
-    /// let second = other.get(key).expect("as often as one likes");
-    /// assert!(other.get("12345".parse::<Key>()?).is_none());
-    /// # Ok::<(), Box<dyn std::error::Error>>(())
-    /// ```
+    /// As [`Pool::get`].
     #[inline(always)]
-    pub fn get(&self, key: Key) -> Option<Ref<'_, T>> {
-        Some(Ref::new(self.hand.get(key)?))
+    pub fn get(&self, key: Key) -> Option<Ref<'p, T>> {
+        GetError::raised(self.try_get(key))
     }
 
-    /// As [`get`](Lane::get), but for what that panics at.
+    /// As [`Pool::try_get`].
     ///
     /// # Errors
     ///
-    /// [`GetError::References`] where the lane has 1,048,575 references in the key's segment.
-    pub fn try_get(&self, key: Key) -> Result<Option<Ref<'_, T>>, GetError> {
-        let held = self.hand.try_get(key)?;
-        Ok(held.map(|held| Ref::new(Spent::new(held))))
+    /// As there.
+    #[inline(always)]
+    pub fn try_get(&self, key: Key) -> Result<Option<Ref<'p, T>>, GetError> {
+        let Some(place) = self.lent.get(key)? else {
+            return Ok(None);
+        };
+        // SAFETY: it was got just now, of this pool.
+        let held = unsafe { Held::of(place, key, self.lent) };
+        Ok(Some(Ref::new(held)))
     }
 
-    /// Clears a key: no get finds it any more. Answers whether this call did: `false` where the key isn't published, or is cleared
-    /// already, or is no key of this pool. The object stays for those who have a reference; the last of them empties it.
-    ///
-    /// ```
-    /// # use pardz::{Pool, Shape};
-    /// # let pool = Pool::<String>::open(Shape::default())?;
-    /// # let lane = pool.lane().expect("a lane");
-    /// let mut filling = lane.create()?;
-    /// filling.push_str("short");
-    /// let text = filling.downgrade();
-    /// assert!(lane.clear(text.key()));
-    /// assert!(!lane.clear(text.key()));
-    /// assert_eq!(*text, "short");
-    /// # Ok::<(), Box<dyn std::error::Error>>(())
-    /// ```
+    /// As [`Pool::clear`]. A place of the lane's own is the quickest to be used again.
     #[inline(always)]
     pub fn clear(&self, key: Key) -> bool {
-        self.hand.clear(key)
+        self.lent.clear(key, self.owner)
     }
 
-    /// Its number, from 0: that of its shard of the pool.
-    pub fn number(&self) -> u32 {
-        self.hand.number()
+    /// As [`Pool::reserve`], for creates of this lane.
+    ///
+    /// # Errors
+    ///
+    /// As there.
+    pub fn reserve(&self, count: usize) -> Result<(), CreateError> {
+        // SAFETY: the lane owns the shards of the ring.
+        unsafe { self.lent.provide(self.shard.get(), self.owner, count) }
+    }
+}
+
+impl<T: Clear + 'static> OwnedLane<T> {
+    /// The lane, lent: for calls that aren't here.
+    #[inline(always)]
+    pub fn lane(&self) -> &Lane<'_, T> {
+        &self.lane
     }
 
-    /// How many references it has, in all segments, with those that were leaked.
-    pub fn references(&self) -> u32 {
-        self.hand.references()
+    /// The pool.
+    pub fn pool(&self) -> &Arc<Pool<T>> {
+        &self.pool
+    }
+
+    /// As [`Lane::create`].
+    ///
+    /// # Errors
+    ///
+    /// As there.
+    #[inline(always)]
+    pub fn create(&self) -> Result<Filling<'_, T>, CreateError>
+    where
+        T: Default,
+    {
+        self.lane().create()
+    }
+
+    /// As [`Lane::put_with`].
+    ///
+    /// # Errors
+    ///
+    /// As there.
+    #[inline(always)]
+    pub fn put_with(&self, fill: impl FnOnce(&mut T)) -> Result<Key, CreateError>
+    where
+        T: Default,
+    {
+        self.lane().put_with(fill)
+    }
+
+    /// As [`Lane::put`].
+    ///
+    /// # Errors
+    ///
+    /// As there.
+    #[inline(always)]
+    pub fn put(&self, from: &T::From) -> Result<Key, CreateError>
+    where
+        T: Put + Default,
+    {
+        self.lane().put(from)
+    }
+
+    /// As [`Lane::get`].
+    #[inline(always)]
+    pub fn get(&self, key: Key) -> Option<Ref<'_, T>> {
+        self.lane().get(key)
+    }
+
+    /// As [`Lane::clear`].
+    #[inline(always)]
+    pub fn clear(&self, key: Key) -> bool {
+        self.lane().clear(key)
+    }
+}
+
+impl<T: Clear + 'static> fmt::Debug for OwnedLane<T> {
+    fn fmt(&self, f: &mut fmt::Formatter<'_>) -> fmt::Result {
+        f.debug_struct("OwnedLane").finish_non_exhaustive()
+    }
+}
+
+impl<T: Clear> Drop for Lane<'_, T> {
+    fn drop(&mut self) {
+        self.lent.leave(self.shard.get());
     }
 }
 
 impl<T: Clear> fmt::Debug for Lane<'_, T> {
     fn fmt(&self, f: &mut fmt::Formatter<'_>) -> fmt::Result {
-        f.debug_struct("Lane")
-            .field("number", &self.number())
-            .finish_non_exhaustive()
+        f.debug_struct("Lane").finish_non_exhaustive()
     }
 }

@@ -1,46 +1,36 @@
 //! A sharded pool of buffers and objects that are emptied in place and used again.
 //!
-//! One thread fills an object and publishes it under a [`Key`]; any thread with a [`Lane`] reads it by a reference. A clear hides the
-//! key at once, and whoever lets go last empties the object, which keeps its memory and is filled again under a new key. No call by a
-//! lane in hand waits for another thread, but a create that opens a segment. Each makes a bounded number of steps, but a clear while
-//! others step on the same key: then it may try its exchange again.
+//! One thread fills an object and publishes it under a [`Key`], a number; any thread reads it by a reference. A clear hides the key at once,
+//! and whoever lets go last empties the object, which keeps its memory and is filled again under a new key.
 //!
 //! ```
-//! use pardz::{Buffer, Pool, Shape};
-//! use std::io::Write;
-//! use std::thread;
+//! use pardz::Pool;
 //!
-//! # fn main() -> Result<(), Box<dyn std::error::Error>> {
-//! let pool = Pool::<Buffer>::open(Shape { lanes: 2, first_page: 8, pages: 2, ..Shape::default() })?;
-//! let lane = pool.lane().ok_or("no lane is left")?;
-//!
-//! let mut filling = lane.create()?;
-//! write!(filling, "hello {}", 5)?;
-//! let key = filling.publish();
-//!
-//! thread::scope(|scope| {
-//!     scope.spawn(|| {
-//!         let lane = pool.lane().expect("one for each thread");
-//!         let bytes = lane.get(key).expect("it is published");
-//!         assert!(lane.clear(key)); // no get finds it any more,
-//!         assert_eq!(*bytes, *b"hello 5"); // and the bytes stay until the reference is dropped
-//!     });
-//! });
-//! assert!(lane.get(key).is_none());
-//!
-//! drop(lane);
-//! assert_eq!(pool.close().present, 0);
-//! # Ok(())
-//! # }
+//! let pool = Pool::<String>::new();
+//! let key = pool.put("hello")?; // copied into a String of the pool
+//! let text = pool.get(key).expect("published");
+//! assert!(pool.clear(key)); // no get finds it any more,
+//! assert!(pool.get(key).is_none());
+//! assert_eq!(*text, "hello"); // and it stays until the reference is dropped
+//! # Ok::<(), pardz::CreateError>(())
 //! ```
+//!
+//! # Who needs what
+//!
+//! Any thread may make any call, in any number. Only a *create* uses something of the thread's own: a *shard*, which the thread has from its
+//! first create until it exits. A full one is joined by a further one, of those that nobody has, or new. Everybody else is a guest: a get, a
+//! read, a release, a clear and a publish touch the word of the object's place, and who is the last to leave it a bit of its shard.
+//!
+//! No call waits for another thread, but a create that takes a shard, the taking and dropping of a [`Lane`], and a thread's exit: these
+//! share one lock for a bounded number of steps.
 //!
 //! # What is pooled
 //!
-//! A [`Pool`] holds objects of a type that has an empty one ([`Default`]) and can be emptied in place ([`Clear`]): a [`Buffer`] of bytes, a
-//! `String`, a `Vec`, a map, a type of one's own.
+//! A [`Pool`] holds objects of a type that can be emptied in place ([`Clear`]): a [`Buffer`] of bytes, a `String`, a `Vec`, a map, a type of
+//! one's own.
 //!
 //! ```
-//! use pardz::{Clear, Pool, Shape};
+//! use pardz::{Clear, Pool};
 //!
 //! #[derive(Default)]
 //! struct Request {
@@ -55,154 +45,113 @@
 //!     }
 //! }
 //!
-//! # fn main() -> Result<(), Box<dyn std::error::Error>> {
-//! let pool = Pool::<Request>::open(Shape::default())?;
-//! let lane = pool.lane().ok_or("no lane is left")?;
-//! let key = lane.create_with(|request| request.path.push_str("/index"))?;
-//! assert_eq!(lane.get(key).ok_or("it is published")?.path, "/index");
-//! # Ok(())
-//! # }
+//! let pool = Pool::<Request>::new();
+//! let key = pool.put_with(|request| request.path.push_str("/index"))?;
+//! assert_eq!(pool.get(key).expect("published").path, "/index");
+//! # Ok::<(), pardz::CreateError>(())
 //! ```
 //!
-//! `Default`, `Clear` and `Drop` of the type, and closures, run outside of the pool's own steps: they may call the pool again, by the
-//! same lane too. A panic in them loses their object at most. An object never moves while the pool is open.
+//! `Default`, `Clear` and `Drop` of the type, and closures, run outside of the pool's own steps: they may call the pool again. A panic in them
+//! loses their object at most. An object never moves.
 //!
-//! # Any thread, handles that travel, room that grows
+//! # Handles
 //!
-//! A program of threads that come and go needs no lane in hand: the pool has the same calls. A thread's first call finds it a lane,
-//! which it keeps until it ends; where all are taken it shares one. [`Pool::growing`] opens a pool that takes memory as it fills.
+//! - A [`Filling`] has an object to be filled; a [`Ref`] one that is published. They borrow the pool, and may go to other threads.
+//! - [`OwnedFilling`] and [`OwnedRef`] ([`Pool::create_owned`], [`Pool::get_owned`]) are `'static`, for what outlives a scope, as a future across
+//!   `.await` or a message. They may outlive the pool.
+//! - A [`Lane`] ([`Pool::lane`]) is a shard in hand: its creates look for nothing that the thread has, and it moves from thread to thread.
 //!
 //! ```
 //! use pardz::{Key, OwnedRef, Pool};
 //! use std::thread;
 //!
-//! let pool = Pool::<String>::growing()?;
-//! let key: Key = pool.put("from here")?;
+//! static POOL: Pool<String> = Pool::new();
+//!
+//! let key: Key = POOL.put("from here")?;
 //! thread::scope(|scope| {
 //!     for _ in 0..40 {
-//!         scope.spawn(|| assert_eq!(*pool.get(key).expect("published"), "from here"));
+//!         scope.spawn(|| assert_eq!(*POOL.get(key).expect("published"), "from here"));
 //!     }
 //! });
-//! let text: OwnedRef<String> = pool.get_owned(key).expect("published");
-//! assert!(pool.clear(key));
+//! let text: OwnedRef<String> = POOL.get_owned(key).expect("published");
+//! assert!(POOL.clear(key));
 //! thread::spawn(move || assert_eq!(*text, "from here")).join().expect("no panic");
-//! # Ok::<(), Box<dyn std::error::Error>>(())
-//! ```
-//!
-//! There are three ways to call, and each finds the keys of the others:
-//!
-//! - A [`Lane`] in hand ([`Pool::lane`]): for a fixed set of threads, 64 at most, and for calls that must be quickest or never wait. Its
-//!   [`Filling`] and [`Ref`] borrow the lane.
-//! - The pool's own calls ([`Pool::get`] and its like): for threads that come and go, even while they exit. [`PoolFilling`] and [`PoolRef`]
-//!   borrow the pool.
-//! - Owned handles ([`Pool::get_owned`], [`Pool::create_owned`]): for what outlives a scope, as a future across `.await` or a message.
-//!   [`OwnedFilling`] and [`OwnedRef`] are `Send`, `Sync` and `'static`, and may outlive the pool.
-//!
-//! README compares them: what a get costs, which calls may wait for a lock, and where a create goes whose shard is full.
-//!
-//! No call is refused for want of a lane: a growing pool shares four of its lanes, and a pool of [`Pool::open`] has a lane more than
-//! its shape for that. One of 64 lanes has none more: where all are in hand, a create answers [`CreateError::NoLane`], and a get or a
-//! clear of the pool panics.
-//!
-//! A growing pool has up to 256 segments, each a pool of the proved kind with a tag of its own, by which a key tells its segment. The
-//! first has 16 * 32 places and takes less than 192 KiB; from the fifth on each has 16 * 12,224, and from the seventeenth on 16 * 44,992. All ways of calling find keys of
-//! all segments. Twelve threads have a lane each; if there are more, segments with 32 and with 64 lanes are opened, for sixty.
-//!
-//! # A pool for the whole program
-//!
-//! A lane may be kept by its thread, with a share of the pool; it comes home when the thread ends.
-//!
-//! ```
-//! use pardz::{Key, Lane, Pool, Shape};
-//! use std::sync::{Arc, OnceLock};
-//! use std::thread;
-//!
-//! fn pool() -> &'static Arc<Pool<String>> {
-//!     static POOL: OnceLock<Arc<Pool<String>>> = OnceLock::new();
-//!     POOL.get_or_init(|| Arc::new(Pool::open(Shape { lanes: 16, ..Shape::default() }).expect("a right shape, and memory")))
-//! }
-//!
-//! thread_local! {
-//!     static LANE: Lane<'static, String> = pool().lane_owned().expect("at most 16 threads");
-//! }
-//!
-//! let key = thread::spawn(|| LANE.with(|lane| lane.put("from a thread"))).join().expect("no panic")?;
-//! LANE.with(|lane| {
-//!     assert_eq!(*lane.get(key).expect("published"), "from a thread");
-//!     assert!(lane.clear(key));
-//! });
 //! # Ok::<(), pardz::CreateError>(())
 //! ```
 //!
+//! A pool of [`Pool::new`] grows as it fills; [`Limits`] have pools that grow less, or have other tags, and [`Pool::open`] pools of fixed size.
+//! The module [`sharded_slab`] has the names of that crate's pool.
+//!
 //! # What stands behind it
 //!
-//! The pool is proved in Rattle, a Rust with contracts. **This crate is made from those proved sources; it isn't proved itself.** A
-//! translator drops what proofs alone need; what is left is Rust, in the private modules `erased`.
-//!
-//! ## What is trusted
-//!
-//! - The translator; rustc; the code of your types.
-//! - Each file in which a mistake would break memory, which are those with `unsafe`: `src/erased`, `src/shim`, `src/lanes` and
-//!   `src/object`. The others can't: what they get of these moves, so that a second release of a reference doesn't compile.
-//! - What the proofs take for granted: that all threads see the words of a pool read and written in one order (each step is sequentially
-//!   consistent, but for the store of a link, which the same thread's push puts in order); that the stack is large enough; that `usize` has
-//!   64 bits.
-//! - That a place whose word has another generation than a key has no object of that key any more, or not yet: so one load tells a get or
-//!   a clear that the key isn't there. (A word's generation grows alone, and the load stands in one order with all steps on it.)
-//! - That the allocator calls no pool while one is closed or dropped. In all other calls it may.
-//!
-//! What ties it to the proofs, at each run of the repository's tests: the translator writes the committed files again, and they are
-//! compared; a second program, by another method, finds their tokens in the sources; and drawn runs of up to 16 lanes are compared with
-//! those of the proved program, step by step and answer by answer.
-//!
-//! Indices are looked at, so that an error of the translator would end in a panic rather than in a wild access. The feature `unchecked`
-//! leaves these looks out.
-//!
-//! Not there: more than 64 lanes, that is threads without a lock at once; a `Ref` that goes to another lane, which gets its own by the
-//! key.
+//! The words of places, keys and shapes are proved in Rattle, a Rust with contracts, and translated from there (the private module `erased`).
+//! **The crate itself isn't proved**: README says what is by hand, and how that is tested.
 #![deny(missing_docs)]
 #![deny(unsafe_code)]
 #![deny(unsafe_op_in_unsafe_fn)]
 
 mod buffer;
+#[allow(unsafe_code)]
+mod by_key;
+mod bytes;
+#[allow(unsafe_code)]
 mod calls;
+#[allow(unsafe_code)]
+mod census;
 mod clear;
 #[allow(unsafe_code)]
+mod emptying;
 mod erased;
 mod errors;
-mod filling;
-mod key;
-mod lane;
 #[allow(unsafe_code)]
-mod lanes;
+mod filling;
+#[allow(unsafe_code)]
+mod held;
+#[allow(unsafe_code)]
+mod inner;
+mod key;
+#[allow(unsafe_code)]
+mod lane;
+mod limits;
+#[allow(unsafe_code)]
+mod memory;
 #[cfg(doctest)]
 mod misuse;
 #[allow(unsafe_code)]
-mod object;
-#[cfg(test)]
-mod parts;
+mod page;
+mod panics;
+#[allow(unsafe_code)]
 mod pool;
 mod put;
 #[cfg(doctest)]
 #[doc = include_str!("../README.md")]
 mod readme {}
+#[allow(unsafe_code)]
 mod reference;
+#[allow(unsafe_code)]
+mod registry;
+#[allow(unsafe_code)]
+mod segments;
+#[allow(unsafe_code)]
+mod shard;
 #[cfg(target_pointer_width = "64")]
+#[allow(unsafe_code)]
 pub mod sharded_slab;
 #[allow(unsafe_code)]
-mod shim;
+mod share;
 mod sync;
+#[allow(unsafe_code)]
+mod thread;
+mod word;
 
 pub use buffer::Buffer;
+pub use census::{Census, Keys};
 pub use clear::Clear;
-#[cfg(pardz_explore)]
-pub use clear::Plain;
-pub use errors::{CreateError, GetError, KeyError, MemoryRefused, OpenError};
-pub use filling::{Filling, OwnedFilling, PoolFilling};
+pub use errors::{CreateError, Field, GetError, KeyError, MemoryRefused, OpenError};
+pub use filling::{Filling, OwnedFilling};
 pub use key::Key;
-pub use lane::Lane;
-#[cfg(pardz_explore)]
-pub use lanes::{empties_none, lends_after, lends_still};
-pub use pool::{Census, Growth, Pool, Shape};
+pub use lane::{Lane, OwnedLane};
+pub use limits::{Limits, Shape};
+pub use pool::Pool;
 pub use put::Put;
-pub use reference::{OwnedRef, PoolRef, Ref};
+pub use reference::{OwnedRef, Ref};

@@ -1,22 +1,38 @@
 //! Misuse that the compiler refuses, each beside the same lines without it.
 //!
-//! A reference doesn't outlive its lane:
+//! A reference doesn't outlive its pool; it may outlive the lane that got it:
 //!
 //! ```compile_fail,E0505
-//! # let pool = pardz::Pool::<pardz::Buffer>::open(pardz::Shape::default()).unwrap();
+//! let pool = pardz::Pool::<pardz::Buffer>::new();
+//! let bytes = pool.create().unwrap().downgrade();
+//! drop(pool);
+//! println!("{}", bytes.len());
+//! ```
+//!
+//! ```
+//! let pool = pardz::Pool::<pardz::Buffer>::new();
 //! let lane = pool.lane().unwrap();
 //! let bytes = lane.create().unwrap().downgrade();
 //! drop(lane);
 //! println!("{}", bytes.len());
 //! ```
 //!
-//! ```
-//! # let pool = pardz::Pool::<pardz::Buffer>::open(pardz::Shape::default()).unwrap();
-//! let lane = pool.lane().unwrap();
-//! let bytes = lane.create().unwrap().downgrade();
-//! println!("{}", bytes.len());
-//! drop(bytes);
+//! What an owned lane gives doesn't outlive that:
+//!
+//! ```compile_fail,E0505
+//! let pool = std::sync::Arc::new(pardz::Pool::<String>::new());
+//! let lane = pool.lane_owned().unwrap();
+//! let text = lane.create().unwrap().downgrade();
 //! drop(lane);
+//! println!("{}", text.len());
+//! ```
+//!
+//! ```compile_fail,E0505
+//! let pool = std::sync::Arc::new(pardz::Pool::<String>::new());
+//! let lane = pool.lane_owned().unwrap();
+//! let text = lane.lane().create().unwrap().downgrade();
+//! drop(lane);
+//! println!("{}", text.len());
 //! ```
 //!
 //! Its slice doesn't outlive the reference:
@@ -67,24 +83,14 @@
 //! });
 //! ```
 //!
-//! A reference doesn't go to another thread; its slice may:
+//! A reference goes to another thread, and so does a filling:
 //!
-//! ```compile_fail,E0277
-//! # let pool = pardz::Pool::<pardz::Buffer>::open(pardz::Shape::default()).unwrap();
-//! # let lane = pool.lane().unwrap();
-//! let bytes = lane.create().unwrap().downgrade();
+//! ```
+//! let pool = pardz::Pool::<pardz::Buffer>::new();
+//! let (filling, bytes) = (pool.create().unwrap(), pool.create().unwrap().downgrade());
 //! std::thread::scope(|scope| {
+//!     scope.spawn(move || filling.publish());
 //!     scope.spawn(move || bytes.len());
-//! });
-//! ```
-//!
-//! ```
-//! # let pool = pardz::Pool::<pardz::Buffer>::open(pardz::Shape::default()).unwrap();
-//! # let lane = pool.lane().unwrap();
-//! let bytes = lane.create().unwrap().downgrade();
-//! let slice = &bytes[..];
-//! std::thread::scope(|scope| {
-//!     scope.spawn(move || slice.len());
 //! });
 //! ```
 //!
@@ -315,55 +321,37 @@
 //! }
 //! ```
 //!
-//! ```compile_fail
-//! fn shorter<'l, 'a>(filling: pardz::PoolFilling<'l, Vec<&'static str>>) -> pardz::PoolFilling<'l, Vec<&'a str>> {
-//!     filling
-//! }
-//! ```
-//!
-//! What a call of a pool gives doesn't outlive the pool; an owned handle does:
-//!
-//! ```compile_fail,E0505
-//! let pool = pardz::Pool::<String>::growing().unwrap();
-//! let text = pool.create().unwrap().downgrade();
-//! drop(pool);
-//! println!("{}", *text);
-//! ```
-//!
-//! ```
-//! let pool = pardz::Pool::<String>::growing().unwrap();
-//! let text = pool.create_owned().unwrap().downgrade();
-//! drop(pool);
-//! println!("{}", *text);
-//! ```
-//!
-//! It stays on its thread:
+//! Nothing of a pool goes where its objects may not:
 //!
 //! ```compile_fail,E0277
 //! fn crosses<T: Send>() {}
-//! crosses::<pardz::PoolRef<'static, String>>();
+//! crosses::<pardz::Ref<'static, Option<std::cell::Cell<u8>>>>();
 //! ```
 //!
 //! ```compile_fail,E0277
 //! fn crosses<T: Send>() {}
-//! crosses::<pardz::PoolFilling<'static, String>>();
+//! crosses::<pardz::Filling<'static, Option<std::cell::Cell<u8>>>>();
+//! ```
+//!
+//! ```compile_fail,E0277
+//! fn crosses<T: Send>() {}
+//! crosses::<pardz::Ref<'static, Option<std::sync::MutexGuard<'static, u8>>>>();
+//! ```
+//!
+//! ```compile_fail,E0277
+//! fn crosses<T: Send>() {}
+//! crosses::<pardz::Filling<'static, Option<std::sync::MutexGuard<'static, u8>>>>();
 //! ```
 //!
 //! ```compile_fail,E0277
 //! fn shared<T: Sync>() {}
-//! shared::<pardz::PoolRef<'static, String>>();
+//! shared::<pardz::Ref<'static, Option<std::cell::Cell<u8>>>>();
 //! ```
 //!
-//! A filling stays on its thread, and a reference isn't shared:
-//!
-//! ```compile_fail,E0277
-//! fn crosses<T: Send>() {}
+//! ```
+//! fn crosses<T: Send + Sync>() {}
+//! crosses::<pardz::Ref<'static, String>>();
 //! crosses::<pardz::Filling<'static, String>>();
-//! ```
-//!
-//! ```compile_fail,E0277
-//! fn shared<T: Sync>() {}
-//! shared::<pardz::Ref<'static, String>>();
 //! ```
 //!
 //! An object of a reference isn't written:

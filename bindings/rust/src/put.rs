@@ -33,7 +33,7 @@ use crate::pool::Pool;
 ///     }
 /// }
 ///
-/// let pool = Pool::<Request>::growing()?;
+/// let pool = Pool::<Request>::new();
 /// let key = pool.put("/index.html")?;
 /// assert_eq!(pool.get(key).expect("published").length, 11);
 /// # Ok::<(), Box<dyn std::error::Error>>(())
@@ -94,7 +94,7 @@ impl<T: Put + Default> Pool<T> {
     /// lost.
     ///
     /// ```
-    /// let pool = pardz::Pool::<pardz::Buffer>::growing()?;
+    /// let pool = pardz::Pool::<pardz::Buffer>::new();
     /// let key = pool.put(b"abc")?;
     /// assert_eq!(*pool.get(key).expect("published"), *b"abc");
     /// # Ok::<(), Box<dyn std::error::Error>>(())
@@ -118,7 +118,7 @@ impl<T: Put + Default> Lane<'_, T> {
     /// ```
     /// # use pardz::{Buffer, CreateError, OpenError, Pool, Shape};
     /// let pool = Pool::<Buffer>::open(Shape { lanes: 1, first_page: 1, pages: 1, ..Shape::default() })?;
-    /// let lane = pool.lane().expect("a lane");
+    /// let lane = pool.lane().expect("nobody has the shard");
     /// let key = lane.put(b"short").expect("one place");
     /// assert_eq!(lane.get(key).expect("published")[..], *b"short");
     /// assert_eq!(lane.put(b"more").err(), Some(CreateError::Full));

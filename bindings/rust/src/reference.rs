@@ -1,8 +1,10 @@
 //! References.
 use crate::buffer::Buffer;
 use crate::clear::Clear;
+use crate::errors::GetError;
+use crate::held::Held;
 use crate::key::Key;
-use crate::lanes::{FarHeld, Held, InHand, OfThread, Spent};
+use crate::share::{Lent, Share};
 use std::borrow::Borrow;
 use std::cmp::Ordering;
 use std::fmt;
@@ -10,140 +12,38 @@ use std::hash::{Hash, Hasher};
 use std::ops::Deref;
 use std::panic::{RefUnwindSafe, UnwindSafe};
 
-/// A reference to a published object. It is given back when it is dropped, on the thread of its lane.
+/// A reference to a published object. It is given back when it is dropped, on whichever thread.
 ///
 /// The object doesn't change (but for locks and atomics in it) and doesn't move while the reference lives, even if the key is
-/// cleared meanwhile. A `&T` of it may be shared with other threads for that time.
+/// cleared meanwhile.
 ///
-/// It compares, hashes and shows as its object.
+/// It compares, hashes and shows as its object. A clone is one more reference to the same object, also where the key is cleared.
 ///
 /// ```
-/// use pardz::{Pool, Shape};
+/// use pardz::Pool;
 /// use std::thread;
 ///
-/// let pool = Pool::<String>::open(Shape::default())?;
-/// let lane = pool.lane().expect("a lane");
-/// let (one, other) = (lane.put("abc")?, lane.put("abc")?);
-/// let text = lane.get(one).expect("published");
-/// assert!(text == lane.get(other).expect("published"));
-/// assert!(lane.clear(one));
-/// let part: &str = &text[1..];
+/// let pool = Pool::<String>::new();
+/// let (one, other) = (pool.put("abc")?, pool.put("abc")?);
+/// let text = pool.get(one).expect("published");
+/// assert!(text == pool.get(other).expect("published"));
+/// assert!(pool.clear(one));
+/// let more = text.clone();
 /// thread::scope(|scope| {
-///     scope.spawn(move || assert_eq!(part, "bc"));
+///     scope.spawn(move || assert_eq!(*text, "abc"));
 /// });
+/// assert_eq!(*more, "abc");
 /// # Ok::<(), Box<dyn std::error::Error>>(())
 /// ```
-pub struct Ref<'l, T: Clear = Buffer> {
-    held: Spent<Held<'l, T, InHand<T>>>,
+pub struct Ref<'p, T: Clear = Buffer> {
+    held: Held<T, Lent<'p, T>>,
 }
 
-impl<'l, T: Clear> Ref<'l, T> {
-    #[inline(always)]
-    pub(crate) fn new(held: Spent<Held<'l, T, InHand<T>>>) -> Ref<'l, T> {
-        Ref { held }
-    }
-
-    /// The key.
-    #[inline]
-    pub fn key(&self) -> Key {
-        self.held.key()
-    }
-
-    /// One reference more, by a get of the key. `None` where it was cleared meanwhile: that is why this isn't [`Clone`].
-    ///
-    /// # Panics
-    ///
-    /// Where the lane has 1,048,575 references.
-    ///
-    /// ```
-    /// # use pardz::{Pool, Shape};
-    /// # let pool = Pool::<String>::open(Shape::default())?;
-    /// # let lane = pool.lane().expect("a lane");
-    /// let first = lane.create()?.downgrade();
-    /// let second = first.try_clone().expect("it isn't cleared");
-    /// lane.clear(first.key());
-    /// assert!(second.try_clone().is_none());
-    /// # Ok::<(), Box<dyn std::error::Error>>(())
-    /// ```
-    pub fn try_clone(&self) -> Option<Ref<'l, T>> {
-        Some(Ref::new(self.held.try_clone()?))
-    }
-}
-
-/// A reference that a call of a [`Pool`](crate::Pool) got: as a [`Ref`](crate::Ref) of a lane in hand. It stays on its thread; an [`OwnedRef`] may go to others.
+/// A reference with a share of the pool's memory. Where the pool is dropped before, its memory and its objects go with the last owned
+/// handle.
 ///
 /// ```
-/// let pool = pardz::Pool::<String>::growing()?;
-/// let text = pool.create()?.downgrade();
-/// let more = text.try_clone().expect("it isn't cleared");
-/// assert!(pool.clear(text.key()));
-/// assert!(more.try_clone().is_none());
-/// # Ok::<(), Box<dyn std::error::Error>>(())
-/// ```
-pub struct PoolRef<'p, T: Clear = Buffer> {
-    held: Spent<Held<'p, T, OfThread<T>>>,
-}
-
-impl<'p, T: Clear> PoolRef<'p, T> {
-    #[inline(always)]
-    pub(crate) fn new(held: Spent<Held<'p, T, OfThread<T>>>) -> PoolRef<'p, T> {
-        PoolRef { held }
-    }
-
-    /// The key.
-    #[inline]
-    pub fn key(&self) -> Key {
-        self.held.key()
-    }
-
-    /// One reference more, by a get of the key. `None` where it was cleared meanwhile.
-    ///
-    /// # Panics
-    ///
-    /// Where the lane has 1,048,575 references.
-    pub fn try_clone(&self) -> Option<PoolRef<'p, T>> {
-        Some(PoolRef::new(self.held.try_clone()?))
-    }
-
-    /// An owned reference to the same object, by a get of the key, in place of this one. This one comes back where the key was cleared
-    /// meanwhile.
-    ///
-    /// # Errors
-    ///
-    /// Itself, where the key was cleared.
-    ///
-    /// # Panics
-    ///
-    /// As [`Pool::get_owned`](crate::Pool::get_owned).
-    ///
-    /// ```
-    /// use std::thread;
-    ///
-    /// let pool = pardz::Pool::<String>::growing()?;
-    /// let key = pool.put("abc")?;
-    /// let text = pool.get(key).expect("published").into_owned().expect("it isn't cleared");
-    /// let here = pool.get(key).expect("published");
-    /// assert!(pool.clear(key));
-    /// let here = here.into_owned().expect_err("it is cleared");
-    /// assert_eq!(*here, "abc");
-    /// thread::spawn(move || assert_eq!(*text, "abc")).join().expect("no panic");
-    /// # Ok::<(), Box<dyn std::error::Error>>(())
-    /// ```
-    pub fn into_owned(self) -> Result<OwnedRef<T>, PoolRef<'p, T>> {
-        match self.held.get_owned() {
-            Some(held) => Ok(OwnedRef::new(held)),
-            None => Err(self),
-        }
-    }
-}
-
-/// A reference with a share of the pool's memory: it may go to any thread, and is let go on whichever drops it. Where the pool is dropped
-/// before, its memory and its objects go with the last owned handle.
-///
-/// A clone is one more reference to the same object, also where the key is cleared.
-///
-/// ```
-/// let pool = pardz::Pool::<pardz::Buffer>::growing()?;
+/// let pool = pardz::Pool::<pardz::Buffer>::new();
 /// let key = pool.put(b"abc")?;
 /// let bytes = pool.get_owned(key).expect("published");
 /// assert!(pool.clear(key));
@@ -157,44 +57,100 @@ impl<'p, T: Clear> PoolRef<'p, T> {
 /// It may be used behind a panic that was caught, if `&T` may.
 ///
 /// ```
-/// let pool = pardz::Pool::<String>::growing()?;
+/// let pool = pardz::Pool::<String>::new();
 /// let text = pool.get_owned(pool.put("abc")?).expect("published");
 /// assert!(std::panic::catch_unwind(move || assert_eq!(*text, "abc")).is_ok());
 /// # Ok::<(), Box<dyn std::error::Error>>(())
 /// ```
 pub struct OwnedRef<T: Clear = Buffer> {
-    held: FarHeld<T>,
+    held: Held<T, Share<T>>,
+}
+
+impl<'p, T: Clear> Ref<'p, T> {
+    #[inline(always)]
+    pub(crate) fn new(held: Held<T, Lent<'p, T>>) -> Ref<'p, T> {
+        Ref { held }
+    }
+
+    /// The object, by a reference that is never given back: it stays as long as the pool is borrowed, and its place is lost until the
+    /// pool ends.
+    ///
+    /// ```
+    /// let pool = pardz::Pool::<String>::new();
+    /// let key = pool.put("abc")?;
+    /// let text: &str = pool.get(key).expect("published").leak();
+    /// assert!(pool.clear(key));
+    /// assert_eq!(text, "abc");
+    /// # Ok::<(), pardz::CreateError>(())
+    /// ```
+    pub fn leak(self) -> &'p T {
+        self.held.leak()
+    }
+
+    /// The same reference, with a share of the pool's memory in place of the borrow.
+    ///
+    /// ```
+    /// use std::thread;
+    ///
+    /// let pool = pardz::Pool::<String>::new();
+    /// let text = pool.get(pool.put("abc")?).expect("published");
+    /// assert!(pool.clear(text.key()));
+    /// let text = text.into_owned();
+    /// drop(pool);
+    /// thread::spawn(move || assert_eq!(*text, "abc")).join().expect("no panic");
+    /// # Ok::<(), Box<dyn std::error::Error>>(())
+    /// ```
+    pub fn into_owned(self) -> OwnedRef<T> {
+        // SAFETY: the share is one of the pool that was borrowed.
+        OwnedRef::new(unsafe { self.held.kept_by(|lent| Share::of(*lent)) })
+    }
 }
 
 impl<T: Clear> OwnedRef<T> {
     #[inline(always)]
-    pub(crate) fn new(held: FarHeld<T>) -> OwnedRef<T> {
+    pub(crate) fn new(held: Held<T, Share<T>>) -> OwnedRef<T> {
         OwnedRef { held }
     }
-
-    /// The key.
-    pub fn key(&self) -> Key {
-        self.held.key()
-    }
 }
 
-// What it has of the pool no panic leaves half done; the object it only reads.
+// What they have of the pool no panic leaves half done; the object they only read.
+impl<T: Clear + RefUnwindSafe> UnwindSafe for Ref<'_, T> {}
+impl<T: Clear + RefUnwindSafe> RefUnwindSafe for Ref<'_, T> {}
 impl<T: Clear + RefUnwindSafe> UnwindSafe for OwnedRef<T> {}
 impl<T: Clear + RefUnwindSafe> RefUnwindSafe for OwnedRef<T> {}
-
-impl<T: Clear> Clone for OwnedRef<T> {
-    fn clone(&self) -> Self {
-        OwnedRef::new(self.held.clone())
-    }
-}
 
 /// What references do as their objects do it.
 macro_rules! reads_as_its_object {
     ($name:literal, $($of:tt)*) => {
+        impl<T: Clear> $($of)* {
+            /// The key.
+            #[inline]
+            pub fn key(&self) -> Key {
+                self.held.key()
+            }
+
+            /// One more reference to the same object, also where the key is cleared.
+            ///
+            /// # Errors
+            ///
+            /// [`GetError::References`] where there are 268,435,456, the most; a clone panics then.
+            #[inline]
+            pub fn try_clone(&self) -> Result<Self, GetError> {
+                Ok(Self { held: self.held.try_clone()? })
+            }
+        }
+
+        impl<T: Clear> Clone for $($of)* {
+            #[inline]
+            fn clone(&self) -> Self {
+                GetError::raised(self.try_clone())
+            }
+        }
+
         impl<T: Clear> Deref for $($of)* {
             type Target = T;
 
-            #[inline]
+            #[inline(always)]
             fn deref(&self) -> &T {
                 self.held.object()
             }
@@ -259,5 +215,4 @@ macro_rules! reads_as_its_object {
 }
 
 reads_as_its_object!("Ref", Ref<'_, T>);
-reads_as_its_object!("PoolRef", PoolRef<'_, T>);
 reads_as_its_object!("OwnedRef", OwnedRef<T>);

@@ -17,24 +17,22 @@
 //! thread::spawn(move || assert_eq!(item, "hello".to_string())); // and emptied by the last who has it
 //! ```
 //!
-//! It is a thin layer over [`Pool::growing`](crate::Pool::growing): each call finds a lane for its thread, and the pool grows as it fills.
+//! It is a thin layer over [`Pool`](crate::Pool): a create takes a place of its thread's own shard, and the pool grows as it fills.
 //!
 //! # What differs
 //!
-//! - **Places are used in turn**, the one that is free for longest first; sharded-slab takes the one that was freed last. So the low bits
-//!   of a new key say nothing of an earlier one. Memory is used again all the same: that of the object which the thread emptied last goes
-//!   to its next.
+//! - **Which place is used next**: of the 64 places among which the thread freed one last, the lowest that is free; sharded-slab takes the one
+//!   that was freed last. Both use a place again before they open a page.
 //! - **A key is never found again** once it is cleared: a place whose generations are used up is retired. In sharded-slab they begin anew.
 //! - **One clear of a key alone answers yes.** While there are references, sharded-slab answers yes to each.
 //! - **What is being filled isn't cleared**: a clear of the key of a [`RefMut`] answers no, and does nothing. In sharded-slab it can empty
 //!   the object under the `RefMut`.
 //! - **A panic in the closure of [`Pool::create_with`]** publishes nothing: the object is emptied, and its place is free. sharded-slab
 //!   leaves an object that nobody has the key of. (A [`RefMut`] that is dropped is published in both, also by a panic.)
-//! - **Within [`Clear::clear`]**, objects of the same segment that it lets go of are emptied when it has returned, so that a chain of any
+//! - **Within [`Clear::clear`]**, objects of the same pool that it lets go of are emptied when it has returned, so that a chain of any
 //!   length needs no deeper stack. Where it panics its object is dropped.
-//! - **A create is refused** where memory is, or at the end of 256 segments (175 million places): it knows no most number of threads, and
-//!   works while the thread ends. A lane has 1,048,575 references at most, and four lanes have all the owned ones, but for one that
-//!   each thread's own lane may have; one more is a panic.
+//! - **A create is refused** where memory is, or at the end of 16,384 shards of 44,992 places: it knows no other most number of threads, and
+//!   works while the thread ends. An object has 268,435,456 references at most; one more is a panic.
 //! - [`OwnedRef`] and [`OwnedRefMut`] are [`Send`] and [`Sync`] where `T` is both. A [`Clear`] is there for more types.
 //! - Keys have 64 bits: the module is there where `usize` has as many.
 //!
@@ -43,90 +41,24 @@
 //! `Slab` with its entries and iterators. Of [`Config`], `MAX_THREADS`, `MAX_PAGES` and `INITIAL_PAGE_SIZE` are taken and not used.
 pub use crate::clear::Clear;
 use crate::errors::GetError;
-use crate::key::Key;
-use crate::lanes::{self, FarBegun, FarHeld, Kept};
-use crate::pool::Growth;
-use crate::{PoolFilling, PoolRef};
+use crate::held::{Held, Unpublished};
+use crate::inner::Inner;
+use crate::limits::Limits;
+use crate::share::Lent;
 use std::fmt;
 use std::marker::PhantomData;
 use std::ops::{Deref, DerefMut};
+use std::ptr::NonNull;
 use std::sync::Arc;
+
+mod config;
+
+use config::{index_of, key_of, last_generation};
+pub use config::{Config, DefaultConfig};
 
 /// The module of this name there: the pool, and what its calls give.
 pub mod pool {
     pub use super::{OwnedRef, OwnedRefMut, Pool, Ref, RefMut};
-}
-
-/// What a pool is made with. Of the four, [`RESERVED_BITS`](Config::RESERVED_BITS) alone makes a difference.
-pub trait Config: Sized {
-    /// Not used: any number of threads may call.
-    const MAX_THREADS: usize = 4096;
-    /// Not used: a pool grows until memory is refused, or all its segments are full.
-    const MAX_PAGES: usize = 32;
-    /// Not used.
-    const INITIAL_PAGE_SIZE: usize = 32;
-    /// How many of the highest bits of each key are left to the program: 0 to 24. They are 0 in the keys that the pool gives, and not
-    /// looked at in those that it takes.
-    ///
-    /// The generation has so many bits less, of 32; then its place is retired. With 24 the pool ends after some 45,000,000,000 creates.
-    const RESERVED_BITS: usize = 0;
-}
-
-/// All as [`Config`] has it.
-#[derive(Clone, Copy, Debug)]
-pub struct DefaultConfig {
-    _private: (),
-}
-
-impl Config for DefaultConfig {}
-
-/// The bits of a key of the crate, from the lowest: place, generation, tag. Where bits are reserved the generation stands highest, since
-/// it has zeros there: place, tag, generation.
-mod bits {
-    pub const PLACE: u64 = (1 << 24) - 1;
-    pub const GENERATION: u32 = 24;
-    pub const TAG: u32 = 56;
-    pub const RESERVING_TAG: u32 = 24;
-    pub const RESERVING_GENERATION: u32 = 32;
-}
-
-/// The last generation that has room beside the reserved bits.
-const fn last_generation<C: Config>() -> u32 {
-    assert!(C::RESERVED_BITS <= 24, "at most 24 bits can be reserved");
-    u32::MAX >> C::RESERVED_BITS
-}
-
-/// A key, as this module tells it.
-#[inline(always)]
-const fn packed<C: Config>(number: u64) -> u64 {
-    if C::RESERVED_BITS == 0 {
-        return number;
-    }
-    let (tag, generation) = (number >> bits::TAG, (number >> bits::GENERATION) as u32);
-    number & bits::PLACE
-        | tag << bits::RESERVING_TAG
-        | (generation as u64) << bits::RESERVING_GENERATION
-}
-
-/// What was packed. Reserved bits aren't looked at.
-#[inline(always)]
-const fn unpacked<C: Config>(number: u64) -> u64 {
-    if C::RESERVED_BITS == 0 {
-        return number;
-    }
-    let tag = (number >> bits::RESERVING_TAG) as u8 as u64;
-    let generation = (number >> bits::RESERVING_GENERATION) & last_generation::<C>() as u64;
-    number & bits::PLACE | generation << bits::GENERATION | tag << bits::TAG
-}
-
-#[inline(always)]
-fn index_of<C: Config>(key: Key) -> usize {
-    packed::<C>(u64::from(key)) as usize
-}
-
-#[inline(always)]
-fn key_of<C: Config>(index: usize) -> Option<Key> {
-    Key::try_from(unpacked::<C>(index as u64)).ok()
 }
 
 /// A pool of objects that are emptied in place and used again. See [the module](self).
@@ -137,10 +69,6 @@ pub struct Pool<T: Clear + Default, C: Config = DefaultConfig> {
 
 impl<T: Clear + Default> Pool<T> {
     /// An empty pool.
-    ///
-    /// # Panics
-    ///
-    /// Where memory is refused.
     pub fn new() -> Pool<T> {
         Pool::<T>::new_with_config()
     }
@@ -149,7 +77,7 @@ impl<T: Clear + Default> Pool<T> {
     ///
     /// # Panics
     ///
-    /// Where more than 24 bits are to be reserved, or memory is refused.
+    /// Where more than 24 bits are to be reserved.
     ///
     /// ```
     /// use pardz::sharded_slab::{Config, Pool};
@@ -165,12 +93,10 @@ impl<T: Clear + Default> Pool<T> {
     /// assert!(pool.get(key | 3 << 62).is_some());
     /// ```
     pub fn new_with_config<C: Config>() -> Pool<T, C> {
-        match Growth::new().last_generation(last_generation::<C>()).open() {
-            Ok(inner) => Pool {
-                inner,
-                config: PhantomData,
-            },
-            Err(error) => panic!("no pool: {error}"),
+        let limits = Limits::new().last_generation(last_generation::<C>());
+        Pool {
+            inner: crate::Pool::of(limits),
+            config: PhantomData,
         }
     }
 }
@@ -185,7 +111,7 @@ impl<T: Clear + Default, C: Config> Pool<T, C> {
     /// How many of the lowest bits of a key are used: all but [`Config::RESERVED_BITS`].
     pub const USED_BITS: usize = u64::BITS as usize - C::RESERVED_BITS;
 
-    /// An empty object, to be filled. It is published when it is dropped. `None` where memory is refused, or all segments are full.
+    /// An empty object, to be filled. It is published when it is dropped. `None` where memory is refused, or all shards are full.
     ///
     /// ```
     /// # use pardz::sharded_slab::Pool;
@@ -199,7 +125,10 @@ impl<T: Clear + Default, C: Config> Pool<T, C> {
     /// ```
     #[inline(always)]
     pub fn create(&self) -> Option<RefMut<'_, T, C>> {
-        let filling = self.inner.create().ok()?;
+        let lent = self.inner.lent_or_open().ok()?;
+        let begun = lent.create(T::default).ok()?;
+        // SAFETY: it was begun just now, in this pool.
+        let filling = unsafe { Unpublished::of(begun, lent) };
         Some(RefMut {
             filling: Some(filling),
             config: PhantomData,
@@ -221,7 +150,9 @@ impl<T: Clear + Default, C: Config> Pool<T, C> {
     /// ```
     #[inline(always)]
     pub fn create_owned(self: Arc<Self>) -> Option<OwnedRefMut<T, C>> {
-        let filling = lanes::create_owned(self, |pool| &pool.inner).ok()?;
+        let begun = self.inner.lent_or_open().ok()?.create(T::default).ok()?;
+        // SAFETY: it was begun just now, in this pool.
+        let filling = unsafe { Unpublished::of(begun, Kept::of(self)?) };
         Some(OwnedRefMut {
             filling: Some(filling),
             config: PhantomData,
@@ -231,14 +162,18 @@ impl<T: Clear + Default, C: Config> Pool<T, C> {
     /// Fills an object and publishes it: its key. `None` as with [`create`](Pool::create).
     #[inline(always)]
     pub fn create_with(&self, fill: impl FnOnce(&mut T)) -> Option<usize> {
-        let key = self.inner.create_with(fill).ok()?;
+        let key = self.inner.put_with(fill).ok()?;
         Some(index_of::<C>(key))
     }
 
     /// A reference to the object of a key. `None` where it isn't published, or is cleared, or was never a key.
     #[inline(always)]
     pub fn get(&self, key: usize) -> Option<Ref<'_, T, C>> {
-        let item = self.inner.get(key_of::<C>(key)?)?;
+        let key = key_of::<C>(key)?;
+        let lent = self.inner.lent()?;
+        let place = GetError::raised(lent.get(key))?;
+        // SAFETY: it is a reference that was got just now, of this pool.
+        let item = unsafe { Held::of(place, key, lent) };
         Some(Ref {
             item,
             config: PhantomData,
@@ -248,8 +183,11 @@ impl<T: Clear + Default, C: Config> Pool<T, C> {
     /// As [`get`](Pool::get), with a share of the pool.
     #[inline(always)]
     pub fn get_owned(self: Arc<Self>, key: usize) -> Option<OwnedRef<T, C>> {
-        let item = lanes::get_owned(self, |pool| &pool.inner, key_of::<C>(key)?);
-        let item = item.unwrap_or_else(GetError::raise)?;
+        let key = key_of::<C>(key)?;
+        let place = self.inner.lent()?.get(key);
+        let place = GetError::raised(place)?;
+        // SAFETY: it is a reference that was got just now, of this pool.
+        let item = unsafe { Held::of(place, key, Kept::of(self)?) };
         Some(OwnedRef {
             item,
             config: PhantomData,
@@ -275,26 +213,55 @@ impl<T: Clear + Default + fmt::Debug, C: Config> fmt::Debug for Pool<T, C> {
 
 /// A reference to a published object.
 pub struct Ref<'p, T: Clear + Default, C: Config = DefaultConfig> {
-    item: PoolRef<'p, T>,
+    item: Held<T, Lent<'p, T>>,
     config: PhantomData<fn() -> C>,
 }
 
 /// An object that is being filled. It is published when it is dropped.
 pub struct RefMut<'p, T: Clear + Default, C: Config = DefaultConfig> {
-    filling: Option<PoolFilling<'p, T>>,
+    filling: Option<Unpublished<T, Lent<'p, T>>>,
     config: PhantomData<fn() -> C>,
 }
 
 /// A reference with a share of the pool.
 pub struct OwnedRef<T: Clear + Default, C: Config = DefaultConfig> {
-    item: Kept<FarHeld<T>, Pool<T, C>>,
+    item: Held<T, Kept<T, C>>,
     config: PhantomData<fn() -> C>,
 }
 
 /// An object that is being filled, with a share of the pool. It is published when it is dropped.
 pub struct OwnedRefMut<T: Clear + Default, C: Config = DefaultConfig> {
-    filling: Option<Kept<FarBegun<T>, Pool<T, C>>>,
+    filling: Option<Unpublished<T, Kept<T, C>>>,
     config: PhantomData<fn() -> C>,
+}
+
+/// A share of a pool by its `Arc`, which keeps the pool's memory.
+struct Kept<T: Clear + Default, C: Config> {
+    inner: NonNull<Inner<T>>,
+    _pool: Arc<Pool<T, C>>,
+}
+
+// SAFETY: as the `Arc`, and a reference to the memory.
+unsafe impl<T: Clear + Default + Send + Sync, C: Config> Send for Kept<T, C> {}
+// SAFETY: as above.
+unsafe impl<T: Clear + Default + Send + Sync, C: Config> Sync for Kept<T, C> {}
+
+impl<T: Clear + Default, C: Config> Kept<T, C> {
+    /// None where the pool has no memory yet.
+    fn of(pool: Arc<Pool<T, C>>) -> Option<Kept<T, C>> {
+        let inner = NonNull::from(&*pool.inner.lent()?);
+        Some(Kept { inner, _pool: pool })
+    }
+}
+
+impl<T: Clear + Default, C: Config> Deref for Kept<T, C> {
+    type Target = Inner<T>;
+
+    #[inline(always)]
+    fn deref(&self) -> &Inner<T> {
+        // SAFETY: the memory is there as long as the pool.
+        unsafe { self.inner.as_ref() }
+    }
 }
 
 /// What is there until its owner is spent.
@@ -322,7 +289,7 @@ macro_rules! reference {
 
             #[inline]
             fn deref(&self) -> &T {
-                &self.item
+                self.item.object()
             }
         }
     };
@@ -353,16 +320,14 @@ macro_rules! filling {
 
             #[inline]
             fn deref(&self) -> &T {
-                let filling = there(self.filling.as_ref());
-                filling
+                there(self.filling.as_ref()).object()
             }
         }
 
         impl<$($life,)? T: Clear + Default, C: Config> DerefMut for $name<$($life,)? T, C> {
             #[inline]
             fn deref_mut(&mut self) -> &mut T {
-                let filling = there(self.filling.as_mut());
-                filling
+                there(self.filling.as_mut()).object_mut()
             }
         }
 
@@ -370,7 +335,7 @@ macro_rules! filling {
             #[inline(always)]
             fn drop(&mut self) {
                 if let Some(filling) = self.filling.take() {
-                    filling.publish();
+                    let _ = filling.publish();
                 }
             }
         }

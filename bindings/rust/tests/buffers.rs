@@ -4,7 +4,7 @@ mod beside;
 mod common;
 
 use common::{limit, Gate};
-use pardz::{Buffer, CreateError, Key, Lane, OpenError, Pool, Shape};
+use pardz::{Buffer, CreateError, Field, Key, Lane, OpenError, Pool, Shape};
 use std::io::{self, Read, Write};
 use std::sync::atomic::{AtomicBool, Ordering::SeqCst};
 use std::sync::{mpsc, Arc, Mutex, RwLock};
@@ -38,22 +38,23 @@ fn put(lane: &Lane, bytes: &[u8]) -> Key {
 
 #[test]
 fn wrong_shapes() {
-    let changes: [fn(&mut Shape); 9] = [
-        |shape| shape.lanes = 0,
-        |shape| shape.lanes = 65,
-        |shape| shape.lanes = u32::MAX,
-        |shape| shape.first_page = 3,
-        |shape| shape.first_page = 128,
-        |shape| shape.pages = 0,
-        |shape| shape.pages = 17,
-        |shape| shape.last_generation = 0,
-        |shape| shape.tag = 256,
+    type Change = fn(&mut Shape);
+    let changes: [(Change, Field); 9] = [
+        (|shape| shape.lanes = 0, Field::Lanes),
+        (|shape| shape.lanes = 65, Field::Lanes),
+        (|shape| shape.lanes = u32::MAX, Field::Lanes),
+        (|shape| shape.first_page = 3, Field::FirstPage),
+        (|shape| shape.first_page = 128, Field::FirstPage),
+        (|shape| shape.pages = 0, Field::Pages),
+        (|shape| shape.pages = 17, Field::Pages),
+        (|shape| shape.last_generation = 0, Field::LastGeneration),
+        (|shape| shape.tag = 256, Field::Tag),
     ];
-    for change in changes {
+    for (change, field) in changes {
         let mut wrong = Shape::default();
         change(&mut wrong);
         let opened = Pool::<Buffer>::open(wrong);
-        assert_eq!(opened.err(), Some(OpenError::Shape), "{wrong:?}");
+        assert_eq!(opened.err(), Some(OpenError::Shape(field)), "{wrong:?}");
     }
     let largest = Shape {
         lanes: 16,
@@ -73,12 +74,16 @@ fn lanes_are_taken_and_come_home() {
     let first = pool.lane().unwrap();
     let second = pool.lane_owned().unwrap();
     let third = pool.lane().unwrap();
-    assert_eq!((first.number(), second.number(), third.number()), (0, 1, 2));
-    assert!(pool.lane().is_none() && pool.lane_owned().is_none());
+    let shard = |key: Key| u64::from(key) >> 16 & 0xff;
+    assert_eq!(shard(first.create().unwrap().key()), 0);
+    assert_eq!(shard(second.create().unwrap().key()), 1);
+    assert_eq!(shard(third.create().unwrap().key()), 2);
+    assert!(pool.lane().is_err() && pool.lane_owned().is_err());
     drop(second);
-    assert_eq!(pool.lane().unwrap().number(), 1);
-    drop((first, third));
-    assert_eq!(Arc::into_inner(pool).unwrap().close().unopened, 36);
+    let again = pool.lane().unwrap();
+    assert_eq!(shard(again.create().unwrap().key()), 1);
+    drop((first, third, again));
+    assert_eq!(Arc::into_inner(pool).unwrap().close().free, 12);
 }
 
 #[test]
@@ -91,7 +96,7 @@ fn a_lane_that_panicked_comes_home() {
         panic!("on purpose");
     });
     assert!(ended.join().is_err());
-    assert!(pool.lane().is_some());
+    assert!(pool.lane().is_ok());
     let census = Arc::into_inner(pool).unwrap().close();
     assert_eq!((census.filling, census.free), (0, 4));
 }
@@ -248,7 +253,7 @@ fn a_filling_is_not_found() {
         let filling = lane.create().unwrap();
         let key = filling.key();
         if left {
-            filling.forget();
+            std::mem::forget(filling);
         } else {
             drop(filling);
         }
@@ -286,16 +291,15 @@ fn several_references_at_once() {
         .chain(&keys)
         .map(|key| other.get(*key).unwrap())
         .collect();
-    let more: Vec<_> = references
-        .iter()
-        .map(|bytes| bytes.try_clone().unwrap())
-        .collect();
+    let more: Vec<_> = references.to_vec();
     for (first, second) in references[..5].iter().zip(&references[5..]) {
         assert_eq!(first.as_ptr(), second.as_ptr());
     }
     assert!(keys.iter().all(|key| lane.clear(*key)));
-    assert!(references[0].try_clone().is_none());
+    let late = references[0].try_clone().unwrap();
     drop(more);
+    assert_eq!(late[..], [0; 40]);
+    drop(late);
     let mut copied = lane.create().unwrap();
     for (number, bytes) in references.iter().enumerate() {
         assert_eq!(&bytes[..], [(number % 5) as u8; 40]);
@@ -313,14 +317,14 @@ fn several_references_at_once() {
 }
 
 #[test]
-#[should_panic(expected = "1,048,575 references")]
+#[should_panic(expected = "268,435,456 references")]
+#[ignore = "it takes a second where it is optimized, and half a minute else"]
 fn too_many_references() {
     let pool = Pool::<Buffer>::open(shape(1)).unwrap();
     let lane = pool.lane().unwrap();
     let key = lane.create().unwrap().publish();
-    let mut references = Vec::new();
     while let Some(reference) = lane.get(key) {
-        references.push(reference);
+        std::mem::forget(reference);
     }
 }
 
@@ -377,13 +381,13 @@ fn a_close_counts_what_is_left() {
     for _ in 0..2 {
         drop(lane.create().unwrap());
     }
-    put(&lane, b"present");
+    _ = put(&lane, b"present");
     let held = put(&lane, b"present too, with a reference");
     let marked = put(&lane, b"marked");
     std::mem::forget(other.get(held).unwrap());
     std::mem::forget(other.get(marked).unwrap());
     assert!(lane.clear(marked));
-    lane.create().unwrap().forget();
+    std::mem::forget(lane.create().unwrap());
     std::mem::forget(lane.create().unwrap());
     std::mem::forget(other);
     drop(lane);
@@ -403,7 +407,6 @@ fn a_census_beside_calls() {
         idle + census.present + census.marked + census.retired
     };
     let _limit = limit();
-    // (All lanes at once: one that came home would be given again, with what it published.)
     let lanes = [(); 3].map(|()| pool.lane().unwrap());
     thread::scope(|scope| {
         let threads = lanes.map(|lane| {
@@ -425,7 +428,7 @@ fn a_census_beside_calls() {
         }
     });
     let now = pool.census();
-    assert!(now.present > 0 && now.unopened == 12 && now.filling == 0);
+    assert!(now.present > 0 && now.filling == 0, "{now:?}");
     assert_eq!(now, pool.close());
 }
 
@@ -450,7 +453,7 @@ fn a_pool_that_is_dropped_is_closed() {
     for _ in 0..100 {
         let pool = Pool::<Buffer>::open(shape(4)).unwrap();
         let lane = pool.lane().unwrap();
-        put(&lane, &[1; 500]);
+        _ = put(&lane, &[1; 500]);
         std::mem::forget(lane.create().unwrap());
     }
 }

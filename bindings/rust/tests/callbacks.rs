@@ -2,7 +2,7 @@
 mod common;
 
 use common::{limit, lock};
-use pardz::{Clear, CreateError, Key, Lane, Pool, Shape};
+use pardz::{Clear, CreateError, Key, Lane, OwnedLane, Pool, Shape};
 use std::cell::{Cell, OnceCell, RefCell};
 use std::sync::{Arc, Mutex, Weak};
 use std::thread;
@@ -18,7 +18,7 @@ fn shape(lanes: u32, first_page: u32, pages: u32) -> Shape {
 
 thread_local! {
     /// The lane of the thread, as a program keeps it whose objects call back.
-    static LANE: OnceCell<Lane<'static, Link>> = const { OnceCell::new() };
+    static LANE: OnceCell<OwnedLane<Link>> = const { OnceCell::new() };
     static EMPTIED: Cell<usize> = const { Cell::new(0) };
 }
 
@@ -62,7 +62,7 @@ fn a_long_row_lets_go() {
                 let lane = lane.get().unwrap();
                 for _ in 0..3 {
                     EMPTIED.set(0);
-                    let last = row(lane, 4032);
+                    let last = row(lane.lane(), 4032);
                     assert_eq!(lane.create().err(), Some(CreateError::Full));
                     assert!(lane.clear(last));
                     assert_eq!(EMPTIED.get(), 4032);
@@ -86,13 +86,13 @@ fn a_row_lets_go_by_a_reference() {
         LANE.with(|place| assert!(place.set(lane).is_ok()));
         LANE.with(|lane| {
             let lane = lane.get().unwrap();
-            let held = lane.get(row(lane, 8)).unwrap();
+            let held = lane.get(row(lane.lane(), 8)).unwrap();
             assert!(lane.clear(held.key()));
             assert_eq!(EMPTIED.get(), 0);
             drop(held);
             assert_eq!(EMPTIED.get(), 8);
             // A filling that is dropped lets go too.
-            let last = row(lane, 7);
+            let last = row(lane.lane(), 7);
             lane.create().unwrap().next = Some(last);
             assert_eq!(EMPTIED.get(), 16);
         });
@@ -103,8 +103,8 @@ fn a_row_lets_go_by_a_reference() {
 }
 
 thread_local! {
-    static BUSY: OnceCell<Lane<'static, Busy>> = const { OnceCell::new() };
-    static TEXTS: OnceCell<Lane<'static, String>> = const { OnceCell::new() };
+    static BUSY: OnceCell<OwnedLane<Busy>> = const { OnceCell::new() };
+    static TEXTS: OnceCell<OwnedLane<String>> = const { OnceCell::new() };
     static SEEN: RefCell<Vec<String>> = const { RefCell::new(Vec::new()) };
 }
 
@@ -122,7 +122,7 @@ impl Clear for Busy {
             let lane = lane.get().unwrap();
             let read = lane.get(text).unwrap();
             assert!(lane.clear(text));
-            SEEN.with_borrow_mut(|seen| seen.push(read.clone()));
+            SEEN.with_borrow_mut(|seen| seen.push(read.to_string()));
             drop(read);
             let key = lane.put("again").unwrap();
             assert!(lane.clear(key));
@@ -130,7 +130,7 @@ impl Clear for Busy {
         });
         BUSY.with(|lane| {
             let lane = lane.get().unwrap();
-            let key = lane.create_with(|busy| busy.depth = self.depth).unwrap();
+            let key = lane.put_with(|busy| busy.depth = self.depth).unwrap();
             assert_eq!(lane.get(key).unwrap().depth, self.depth);
             assert!(lane.clear(key));
             assert!(lane.get(key).is_none());
@@ -178,7 +178,7 @@ fn all_calls_within_a_clear() {
 }
 
 thread_local! {
-    static MAKER: OnceCell<Lane<'static, Maker>> = const { OnceCell::new() };
+    static MAKER: OnceCell<OwnedLane<Maker>> = const { OnceCell::new() };
     static MAKES: Cell<usize> = const { Cell::new(0) };
 }
 
@@ -189,7 +189,7 @@ impl Default for Maker {
     fn default() -> Maker {
         if let Some(fewer) = MAKES.get().checked_sub(1) {
             MAKES.set(fewer);
-            MAKER.with(|lane| assert!(lane.get().unwrap().create_with(|_| ()).is_ok()));
+            MAKER.with(|lane| assert!(lane.get().unwrap().put_with(|_| ()).is_ok()));
         }
         Maker
     }
@@ -207,7 +207,7 @@ fn a_default_that_creates() {
     thread::spawn(move || {
         MAKER.with(|place| assert!(place.set(lane).is_ok()));
         MAKES.set(10);
-        MAKER.with(|lane| lane.get().unwrap().create().unwrap().publish());
+        MAKER.with(|lane| _ = lane.get().unwrap().create().unwrap().publish());
         MAKES.set(4);
         MAKER.with(|lane| assert!(lane.get().unwrap().create().is_ok()));
     })
@@ -218,7 +218,7 @@ fn a_default_that_creates() {
 }
 
 thread_local! {
-    static OTHERS: OnceCell<Lane<'static, Other>> = const { OnceCell::new() };
+    static OTHERS: OnceCell<OwnedLane<Other>> = const { OnceCell::new() };
     static MADE: Cell<usize> = const { Cell::new(0) };
     static MORE: RefCell<Vec<Result<Key, CreateError>>> = const { RefCell::new(Vec::new()) };
 }
@@ -245,7 +245,7 @@ impl Clear for Other {
         OTHERS.with(|lane| {
             let lane = lane.get().unwrap();
             assert!(self.clears.drain(..).all(|key| lane.clear(key)));
-            let more = (0..self.makes).map(|_| lane.create_with(|_| ()));
+            let more = (0..self.makes).map(|_| lane.put_with(|_| ()));
             MORE.with_borrow_mut(|all| all.extend(more));
         });
         self.makes = 0;
@@ -253,7 +253,7 @@ impl Clear for Other {
 }
 
 /// On a thread whose lane has so many places.
-fn with_others(places: u32, with: impl FnOnce(&Lane<'static, Other>) + Send + 'static) {
+fn with_others(places: u32, with: impl FnOnce(&OwnedLane<Other>) + Send + 'static) {
     let _limit = limit();
     let pool = Arc::new(Pool::<Other>::open(shape(1, places, 1)).unwrap());
     let lane = pool.lane_owned().unwrap();
@@ -267,13 +267,13 @@ fn with_others(places: u32, with: impl FnOnce(&Lane<'static, Other>) + Send + 's
     assert_eq!(census.present + census.free, places);
 }
 
-/// What an object clears while it is emptied waits out of its place, and is used for a place that has none.
+/// What an object clears while it is emptied waits in its place, and is used again there.
 #[test]
-fn objects_out_of_their_places_are_used_again() {
+fn objects_that_wait_are_used_again() {
     with_others(4, |lane| {
         for _ in 0..10 {
-            let clears: Vec<_> = (0..3).map(|_| lane.create_with(|_| ()).unwrap()).collect();
-            let last = lane.create_with(|other| other.clears = clears).unwrap();
+            let clears: Vec<_> = (0..3).map(|_| lane.put_with(|_| ()).unwrap()).collect();
+            let last = lane.put_with(|other| other.clears = clears).unwrap();
             assert!(lane.clear(last));
         }
         assert_eq!(MADE.get(), 4);
@@ -285,7 +285,7 @@ fn objects_out_of_their_places_are_used_again() {
 fn a_place_is_free_once_its_object_is_empty() {
     with_others(2, |lane| {
         for _ in 0..5 {
-            let key = lane.create_with(|other| other.makes = 3).unwrap();
+            let key = lane.put_with(|other| other.makes = 3).unwrap();
             assert!(lane.clear(key));
             let more = MORE.take();
             assert!(more[0].is_ok());
@@ -299,9 +299,6 @@ fn a_place_is_free_once_its_object_is_empty() {
             assert!(lane.clear(more[0].unwrap()));
         }
         assert_eq!(MADE.get(), 2);
-        // (The last one is set aside as the pool is closed.)
-        let key = lane.create_with(|other| other.makes = 2).unwrap();
-        assert!(lane.clear(key));
     });
 }
 
@@ -311,8 +308,8 @@ fn closures_that_create() {
     let lane = pool.lane().unwrap();
     let mut inner = None;
     let outer = lane
-        .create_with(|list| {
-            let key = lane.create_with(|other| other.push(1)).unwrap();
+        .put_with(|list| {
+            let key = lane.put_with(|other| other.push(1)).unwrap();
             list.push(u64::from(key));
             inner = Some(key);
         })
@@ -352,7 +349,7 @@ fn drops_at_the_close_call_another_pool() {
         let mut last = lane.create().unwrap();
         last.0 = Some(Arc::clone(&seen));
         last.1 = Some(Arc::clone(&texts));
-        last.publish();
+        _ = last.publish();
     }
     drop((lane, other));
     assert_eq!(pool.close().present, 3);
@@ -389,7 +386,7 @@ fn a_clear_takes_another_lane() {
                 taker.pool = Arc::downgrade(&pool);
                 taker.next = last;
             };
-            last = Some(lane.create_with(fill).unwrap());
+            last = Some(lane.put_with(fill).unwrap());
         }
         assert!(lane.clear(last.unwrap()));
         assert_eq!(pool.census().present, 0);
@@ -426,7 +423,7 @@ fn threads_let_go_of_each_others() {
             LANE.with(|lane| {
                 let lane = lane.get().unwrap();
                 for _ in 0..ROUNDS {
-                    take_over(lane, &lent);
+                    take_over(lane.lane(), &lent);
                 }
             });
         })

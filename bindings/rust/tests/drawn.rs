@@ -198,8 +198,10 @@ struct Run<'l> {
 }
 
 impl<'l> Run<'l> {
-    fn lane(&mut self) -> &'l Lane<'l, Vec<u64>> {
-        &self.lanes[self.draws.below(self.lanes.len())]
+    /// A lane, with its number: that of its shard, as they were taken in this order.
+    fn lane(&mut self) -> (u32, &'l Lane<'l, Vec<u64>>) {
+        let number = self.draws.below(self.lanes.len());
+        (number as u32, &self.lanes[number])
     }
 
     fn key(&mut self) -> Key {
@@ -213,19 +215,19 @@ impl<'l> Run<'l> {
     }
 
     fn create(&mut self) {
-        let lane = self.lane();
+        let (number, lane) = self.lane();
         match lane.create() {
             Ok(mut list) => {
                 assert!(list.is_empty());
                 let key = list.key();
-                self.model.create(lane.number(), key);
+                self.model.create(number, key);
                 self.keys.push(key);
                 list.push(key.into());
                 self.fillings.push(list);
             }
             Err(error) => {
                 assert_eq!(error, CreateError::Full);
-                assert!(self.model.is_full(lane.number()));
+                assert!(self.model.is_full(number));
             }
         }
     }
@@ -257,14 +259,14 @@ impl<'l> Run<'l> {
     }
 
     fn get(&mut self) {
-        let (lane, key) = (self.lane(), self.key());
+        let ((_, lane), key) = (self.lane(), self.key());
         let found = lane.get(key);
         assert_eq!(found.is_some(), self.model.get(key), "{key}");
         self.references.extend(found);
     }
 
     fn clear(&mut self) {
-        let (lane, key) = (self.lane(), self.key());
+        let ((_, lane), key) = (self.lane(), self.key());
         assert_eq!(lane.clear(key), self.model.clear(key), "{key}");
     }
 
@@ -293,15 +295,15 @@ impl<'l> Run<'l> {
 
     /// So many objects of one lane, which lead it through its pages.
     fn fill(&mut self, count: usize) {
-        let lane = self.lane();
+        let (number, lane) = self.lane();
         for _ in 0..count {
             let Ok(mut list) = lane.create() else {
-                return assert!(self.model.is_full(lane.number()));
+                return assert!(self.model.is_full(number));
             };
             let key = list.key();
             list.push(key.into());
-            list.publish();
-            self.model.create(lane.number(), key);
+            assert_eq!(list.publish(), key);
+            self.model.create(number, key);
             self.model.publish(key, 0);
             self.keys.push(key);
         }
@@ -328,7 +330,7 @@ fn run(seed: u64, shape: Shape, calls: usize, fills: &[usize]) {
         }
     }
     assert_eq!(pool.census(), run.model.census(), "{shape:?}");
-    run.fillings.into_iter().for_each(Filling::forget);
+    run.fillings.into_iter().for_each(std::mem::forget);
 }
 
 /// Small pools of many lanes and pages: most places are used again, retired, returned by other lanes.

@@ -2,7 +2,7 @@
 mod common;
 
 use common::{limit, lock, Gate};
-use pardz::{Clear, CreateError, Key, OpenError, Pool, Shape};
+use pardz::{Clear, CreateError, Field, Key, OpenError, Pool, Shape};
 use std::sync::atomic::{AtomicUsize, Ordering::SeqCst};
 use std::sync::{mpsc, Arc, Mutex};
 use std::thread;
@@ -59,26 +59,8 @@ fn an_object_is_empty_when_its_place_is_given_again() {
         span.events.lock().unwrap().push(1);
         assert!(lane.clear(span.key()));
         assert_eq!(span.fields, [("round", u64::from(round))]);
-        assert!(span.try_clone().is_none());
+        assert_eq!(span.clone().name, "request");
         assert!(format!("{span:?}").contains("request"));
-    }
-}
-
-/// By calls, of a thread that asks for as many places as its own lane and a shared one have.
-#[test]
-fn an_object_of_a_shared_lane_is_emptied() {
-    let pool = Pool::<Span>::open(shape(4)).unwrap();
-    for round in 0..3 {
-        let put = |_| {
-            let mut span = pool.create().unwrap();
-            assert_eq!((span.clears, span.name.as_str()), (round, ""));
-            span.name.push_str("request");
-            span.publish()
-        };
-        let keys: Vec<Key> = (0..24).map(put).collect();
-        let lane_of = |key: &Key| u64::from(*key) >> 16 & 0xFF;
-        assert!(keys.iter().any(|key| lane_of(key) != lane_of(&keys[0])));
-        keys.into_iter().for_each(|key| assert!(pool.clear(key)));
     }
 }
 
@@ -86,7 +68,7 @@ fn an_object_of_a_shared_lane_is_emptied() {
 fn wrong_shapes() {
     assert_eq!(
         Pool::<String>::open(shape(65)).err(),
-        Some(OpenError::Shape)
+        Some(OpenError::Shape(Field::Lanes))
     );
     assert_eq!(
         Pool::<String>::open(Shape {
@@ -94,7 +76,7 @@ fn wrong_shapes() {
             ..shape(1)
         })
         .err(),
-        Some(OpenError::Shape)
+        Some(OpenError::Shape(Field::FirstPage))
     );
 }
 
@@ -125,7 +107,7 @@ fn each_object_is_dropped_once() {
     keys.into_iter().for_each(|key| assert!(lane.clear(key)));
     assert_eq!(ALIVE.load(SeqCst), 6);
     drop(lane.create().unwrap());
-    lane.create().unwrap().forget();
+    std::mem::forget(lane.create().unwrap());
     std::mem::forget(lane.create().unwrap().downgrade());
     drop(lane);
     let census = pool.close();
@@ -181,7 +163,7 @@ fn owned_lanes_pass_objects() {
     let _limit = limit();
     let (to, from) = mpsc::sync_channel(4);
     let (writer, reader) = (pool.lane_owned().unwrap(), pool.lane_owned().unwrap());
-    assert!(pool.lane().is_none());
+    assert!(pool.lane().is_err());
     let writing = thread::spawn(move || {
         for round in 0..1000 {
             let mut text = loop {
@@ -229,10 +211,10 @@ fn the_last_one_empties() {
     let pool = Pool::<Told>::open(shape(2)).unwrap();
     let lane = pool.lane().unwrap();
     let here = || EMPTIED.take();
-    let key = lane.create_with(|told| told.0 = 1).unwrap();
+    let key = lane.put_with(|told| told.0 = 1).unwrap();
     assert!(lane.clear(key));
     assert_eq!(here(), [1]);
-    let told = lane.create_with(|told| told.0 = 2).unwrap();
+    let told = lane.put_with(|told| told.0 = 2).unwrap();
     let (first, second) = (lane.get(told).unwrap(), lane.get(told).unwrap());
     assert!(lane.clear(told) && here().is_empty());
     drop(first);
@@ -245,9 +227,9 @@ fn the_last_one_empties() {
     assert_eq!(here(), [3]);
     let mut filling = lane.create().unwrap();
     filling.0 = 4;
-    filling.forget();
-    assert_eq!(here(), [4]);
-    let told = lane.create_with(|told| told.0 = 5).unwrap();
+    std::mem::forget(filling);
+    assert!(here().is_empty());
+    let told = lane.put_with(|told| told.0 = 5).unwrap();
     let held = lane.get(told).unwrap();
     let _limit = limit();
     let other = pool.lane().unwrap();
@@ -273,12 +255,14 @@ fn each_is_emptied_once() {
     let _limit = limit();
     let lanes = [(); 4].map(|()| pool.lane().unwrap());
     let mut emptied: Vec<u64> = thread::scope(|scope| {
+        let mut number = 0;
         let threads = lanes.map(|lane| {
+            number += 1;
             let keys = &keys;
             scope.spawn(move || {
                 for round in 0..ROUNDS {
                     let mut told = lane.create().unwrap();
-                    told.0 = round * 4 + u64::from(lane.number()) + 1;
+                    told.0 = round * 4 + number;
                     let told = told.downgrade();
                     let place = &keys[(round % 4) as usize];
                     let other = lock(place).replace(told.key());

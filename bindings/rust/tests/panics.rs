@@ -2,7 +2,7 @@
 mod common;
 
 use common::limit;
-use pardz::{Clear, CreateError, Key, Lane, Pool, Shape};
+use pardz::{Clear, CreateError, Key, Lane, OwnedLane, Pool, Shape};
 use std::cell::{OnceCell, RefCell};
 use std::panic::{catch_unwind, AssertUnwindSafe};
 use std::sync::atomic::{AtomicUsize, Ordering::SeqCst};
@@ -81,7 +81,7 @@ fn in_clear() {
     let lane = pool.lane().unwrap();
     for round in 0..20 {
         let key = lane
-            .create_with(|object| object.set(&alive, When::Clear))
+            .put_with(|object| object.set(&alive, When::Clear))
             .unwrap();
         assert_eq!(alive.load(SeqCst), 1);
         if round % 2 == 0 {
@@ -116,10 +116,10 @@ fn in_clear_of_a_filling() {
     }
     let mut filling = lane.create().unwrap();
     filling.set(&alive, When::Clear);
-    panics(|| filling.forget());
-    assert_eq!(alive.load(SeqCst), 0);
+    std::mem::forget(filling);
     drop(lane);
     assert_eq!(pool.close().filling, 1);
+    assert_eq!(alive.load(SeqCst), 0, "the pool drops it");
 }
 
 #[test]
@@ -140,7 +140,7 @@ fn in_default() {
     let lane = pool.lane().unwrap();
     for _ in 0..4 {
         panics(|| lane.create().map(|filling| filling.publish()));
-        lane.create().unwrap().publish();
+        _ = lane.create().unwrap().publish();
     }
     assert_eq!(CALLS.load(SeqCst), 8);
     drop(lane);
@@ -170,12 +170,9 @@ fn in_default_of_an_owned_handle() {
         fn clear(&mut self) {}
     }
     let pool = Pool::<Third>::open(shape(1)).unwrap();
-    // (So the calls share the lane that the pool has beside its shape, of one place.)
-    let lane = pool.lane().unwrap();
     panics(|| pool.create_owned().map(|filling| filling.publish()));
     let key = pool.create_owned().unwrap().publish();
     assert!(pool.get(key).is_some());
-    drop(lane);
     assert_eq!((CALLS.load(SeqCst), ALIVE.load(SeqCst)), (2, 1));
     drop(pool);
     assert_eq!(ALIVE.load(SeqCst), 0);
@@ -188,7 +185,7 @@ fn in_a_closure() {
     let mut keys = Vec::new();
     for _ in 0..5 {
         panics(|| {
-            lane.create_with(|text| {
+            lane.put_with(|text| {
                 text.push_str("half");
                 panic!("on purpose")
             })
@@ -209,14 +206,14 @@ fn in_clear_while_unwinding() {
     let lane = pool.lane().unwrap();
     for _ in 0..5 {
         panics(|| {
-            lane.create_with(|object| {
+            lane.put_with(|object| {
                 object.set(&alive, When::Clear);
                 panic!("on purpose")
             })
         });
         assert_eq!(alive.load(SeqCst), 0);
         let key = lane
-            .create_with(|object| object.set(&alive, When::Clear))
+            .put_with(|object| object.set(&alive, When::Clear))
             .unwrap();
         panics(|| {
             let _held = lane.get(key).unwrap();
@@ -236,7 +233,11 @@ fn in_clear_while_unwinding() {
 fn in_drop() {
     for close in [true, false] {
         let alive = Arc::new(AtomicUsize::new(0));
-        let pool = Pool::<Touchy>::open(shape(64)).unwrap();
+        let pool = Pool::<Touchy>::open(Shape {
+            lanes: 2,
+            ..shape(64)
+        })
+        .unwrap();
         let lane = pool.lane().unwrap();
         let keys: Vec<Key> = (0..60)
             .map(|number| {
@@ -245,13 +246,13 @@ fn in_drop() {
                 } else {
                     When::Never
                 };
-                lane.create_with(|object| object.set(&alive, when)).unwrap()
+                lane.put_with(|object| object.set(&alive, when)).unwrap()
             })
             .collect();
         // Two of them are empty then. And another lane has four.
         assert!(lane.clear(keys[0]) && lane.clear(keys[57]));
         for _ in 0..4 {
-            let of_others = pool.create_with(|object| object.set(&alive, When::Never));
+            let of_others = pool.put_with(|object| object.set(&alive, When::Never));
             assert!(of_others.is_ok());
         }
         drop(lane);
@@ -269,7 +270,7 @@ fn in_drop() {
 
 thread_local! {
     /// The lane of the thread, by which its nodes let go of others.
-    static LANE: OnceCell<Lane<'static, Node>> = const { OnceCell::new() };
+    static LANE: OnceCell<OwnedLane<Node>> = const { OnceCell::new() };
     /// The numbers of the nodes that were emptied.
     static EMPTIED: RefCell<Vec<u32>> = const { RefCell::new(Vec::new()) };
 }
@@ -299,7 +300,7 @@ fn publish_node(lane: &Lane<'_, Node>, number: u32, below: &[Key]) -> Key {
         node.number = number;
         node.below.extend(below);
     };
-    lane.create_with(fill).unwrap()
+    lane.put_with(fill).unwrap()
 }
 
 /// Where a clear lets go of others and one of them panics, the others are emptied all the same.
@@ -312,7 +313,7 @@ fn in_a_clear_within_a_clear() {
         LANE.with(|place| assert!(place.set(lane).is_ok()));
         LANE.with(|lane| {
             let lane = lane.get().unwrap();
-            let node = |number, below: &[Key]| publish_node(lane, number, below);
+            let node = |number, below: &[Key]| publish_node(lane.lane(), number, below);
             let leaves = [node(11, &[]), node(12, &[]), node(13, &[])];
             let inner = [node(1, &leaves), node(2, &[])];
             let root = node(0, &inner);

@@ -4,9 +4,7 @@
 mod heap;
 
 use heap::{again, takes_none, tried, BLOCKS, GRANTED, REFUSED, REQUESTS};
-use pardz::{
-    Buffer, Census, Clear, CreateError, Key, Lane, MemoryRefused, OpenError, Pool, Ref, Shape,
-};
+use pardz::{Buffer, Census, Clear, CreateError, Key, Lane, MemoryRefused, Pool, Ref, Shape};
 use std::alloc::{GlobalAlloc, Layout, System};
 use std::cell::Cell;
 use std::panic::{self, AssertUnwindSafe};
@@ -45,7 +43,7 @@ fn refuse_each(scenario: fn(), least: u32) {
 }
 
 /// Contents that another lane reads, under their keys.
-fn reads<'l>(lane: &'l Lane<'_>, key: Key, content: &[u8]) -> Ref<'l> {
+fn reads<'p>(lane: &Lane<'p>, key: Key, content: &[u8]) -> Ref<'p> {
     let reference = takes_none(|| lane.get(key)).expect("it is published");
     assert_eq!(reference[..], *content);
     reference
@@ -56,15 +54,13 @@ fn each_place(one: &Lane, other: &Lane) {
     let mut keys = [None; 6];
     for (number, key) in keys.iter_mut().enumerate() {
         let content = [number as u8; 40];
-        let mut filling = takes_none(|| one.create()).expect("a place");
+        let mut filling = again(CreateError::Memory, || one.create());
         again(MemoryRefused, || filling.append(&content[..3]));
         assert_eq!(filling[..], content[..3]);
         again(MemoryRefused, || filling.append(&content[3..]));
         assert_eq!(filling[..], content);
         *key = Some(takes_none(|| filling.publish()));
     }
-    let seventh = takes_none(|| one.create());
-    assert_eq!(seventh.err(), Some(CreateError::Full));
     for (number, key) in keys.iter().flatten().enumerate() {
         let reference = reads(other, *key, &[number as u8; 40]);
         assert!(takes_none(|| one.clear(*key)));
@@ -75,14 +71,14 @@ fn each_place(one: &Lane, other: &Lane) {
 }
 
 fn buffers() {
-    let pool = again(OpenError::Memory, || Pool::<Buffer>::open(SHAPE));
-    let one = takes_none(|| pool.lane()).expect("a lane");
-    let other = takes_none(|| pool.lane()).expect("a second");
+    let pool = takes_none(|| Pool::<Buffer>::open(SHAPE)).expect("a right shape");
+    let one = again(CreateError::Memory, || pool.lane());
+    let other = again(CreateError::Memory, || pool.lane());
     each_place(&one, &other);
     // Once more, in the rooms of the first, by a copy of the content.
     let key = again(CreateError::Memory, || one.put(&[9; 40]));
     let left = again(CreateError::Memory, || one.create());
-    takes_none(|| left.forget());
+    takes_none(|| std::mem::forget(left));
     drop(again(CreateError::Memory, || one.create()));
     let mut held = again(CreateError::Memory, || one.create());
     again(MemoryRefused, || held.append(&[8; 90]));
@@ -106,8 +102,8 @@ fn buffers() {
 }
 
 fn texts() {
-    let pool = again(OpenError::Memory, || Pool::<String>::open(SHAPE));
-    let lane = takes_none(|| pool.lane()).expect("a lane");
+    let pool = Pool::<String>::new();
+    let lane = again(CreateError::Memory, || pool.lane());
     for text in ["short", "a text that is longer", "x", "y"] {
         let key = again(CreateError::Memory, || lane.put(text));
         assert_eq!(*takes_none(|| lane.get(key)).expect("published"), text);
@@ -127,11 +123,11 @@ impl pardz::Clear for Point {
 }
 
 fn objects() {
-    let pool = again(OpenError::Memory, || Pool::<Point>::open(SHAPE));
-    let lane = takes_none(|| pool.lane()).expect("a lane");
+    let pool = Pool::<Point>::open(SHAPE).expect("a right shape");
+    let lane = again(CreateError::Memory, || pool.lane());
     for number in 1..7 {
         let key = again(CreateError::Memory, || {
-            lane.create_with(|point| point.0[7] = number)
+            lane.put_with(|point| point.0[7] = number)
         });
         assert_eq!(
             takes_none(|| lane.get(key)).expect("published").0[7],
@@ -145,34 +141,58 @@ fn objects() {
     assert_eq!(takes_none(|| pool.close()).present, 3);
 }
 
-/// Calls without a lane in hand, as the first of their thread.
-fn without_lanes() {
-    for grows in [true, false] {
-        let pool = again(OpenError::Memory, || match grows {
-            true => Pool::<Point>::growing(),
-            false => Pool::open(SHAPE),
-        });
-        let unknown = Key::try_from(1).expect("a key");
-        if grows {
-            // Where the first segment is refused its memory there is no lane; where the list of the thread's lanes is, it shares.
-            while tried(|| pool.lane()).is_none() {}
-            assert!(tried(|| pool.get(unknown)).is_none());
+/// Calls of a thread, from its first on. (Where the list of its shards finds no memory, it has a shard for the one call, which succeeds.)
+fn calls() {
+    fn create(pool: &Pool<Point>, number: u64) -> Key {
+        let put = || pool.put_with(|point| point.0[7] = number);
+        match tried(put) {
+            Err(error) => {
+                assert_eq!((error, REFUSED.get()), (CreateError::Memory, 1));
+                put().expect("the same call once more")
+            }
+            Ok(key) => key,
         }
-        let keys = [1, 2, 3, 4].map(|number| {
-            again(CreateError::Memory, || {
-                pool.create_with(|point| point.0[7] = number)
-            })
-        });
-        let mut filling = again(CreateError::Memory, || pool.create_owned());
-        filling.0[7] = 5;
-        let key = takes_none(|| filling.publish());
-        for (number, key) in (1..).zip(keys.into_iter().chain([key])) {
-            let (point, owned) = (pool.get(key), takes_none(|| pool.get_owned(key)));
-            assert!(takes_none(|| pool.clear(key)));
-            assert_eq!(point.expect("published").0[7], number);
-            assert_eq!(owned.expect("published").0[7], number);
+    }
+    let pool = Pool::<Point>::new();
+    let keys = [1, 2, 3, 4].map(|number| create(&pool, number));
+    let mut filling = again(CreateError::Memory, || pool.create_owned());
+    filling.0[7] = 5;
+    let key = takes_none(|| filling.publish());
+    for (number, key) in (1..).zip(keys.into_iter().chain([key])) {
+        let (point, owned) = (pool.get(key), takes_none(|| pool.get_owned(key)));
+        let clones = takes_none(|| (point.clone(), owned.clone()));
+        assert!(takes_none(|| pool.clear(key)));
+        assert_eq!(clones.0.expect("published").0[7], number);
+        assert_eq!(clones.1.expect("published").0[7], number);
+        takes_none(|| drop((point, owned)));
+    }
+    assert_eq!(takes_none(|| pool.close()).present, 0);
+}
+
+/// Objects that wait to be emptied, where the list of them finds no memory: they are emptied at once.
+fn chains() {
+    let pool: &Pool<Chained> = Box::leak(Box::new(Pool::new()));
+    let (lane, mut next) = (pool.lane().expect("memory"), None);
+    for _ in 0..20 {
+        let fill = |it: &mut Chained| it.0 = Some((pool, next.take()));
+        next = Some(lane.put_with(fill).expect("a place"));
+    }
+    drop(lane);
+    assert!(tried(|| pool.clear(next.expect("20"))));
+    assert_eq!(pool.len(), 0);
+    // SAFETY: it was leaked above, and nobody borrows it any more.
+    drop(unsafe { Box::from_raw(std::ptr::from_ref(pool).cast_mut()) });
+}
+
+/// Clears the next of a chain as it is cleared.
+#[derive(Default)]
+struct Chained(Option<(&'static Pool<Chained>, Option<Key>)>);
+
+impl Clear for Chained {
+    fn clear(&mut self) {
+        if let Some((pool, Some(next))) = self.0.take() {
+            assert!(pool.clear(next));
         }
-        assert_eq!(takes_none(|| pool.close()).present, 0);
     }
 }
 
@@ -208,25 +228,28 @@ fn the_next_filling_of_a_place_takes_no_memory() {
     takes_none(|| filling.append(&[2; 4096])).expect("the room of the first");
 }
 
-/// A thousand objects ask for memory a few times, each time for more of them, and for a page.
+/// A thousand objects ask for memory for their pages alone, and nothing where room was reserved.
 #[test]
 fn objects_stand_side_by_side() {
-    let shape = Shape {
-        lanes: 1,
-        first_page: 64,
-        pages: 5,
-        ..SHAPE
-    };
-    let pool = Pool::<Point>::open(shape).expect("memory for a pool");
-    let lane = pool.lane().expect("a lane");
+    let pool = Pool::<Point>::new();
+    let lane = pool.lane().expect("memory");
     let before = REQUESTS.get();
     let put = || lane.create().expect("a place").publish();
     let keys: Vec<Key> = (0..1000).map(|_| tried(put)).collect();
-    let asked = REQUESTS.get() - before;
-    assert!(asked <= 16, "memory was asked for {asked} times");
+    assert_eq!(REQUESTS.get() - before, 5, "64 + 128 + 256 + 512 + 1024");
     assert!(keys.iter().all(|key| takes_none(|| lane.clear(*key))));
     let again: Vec<Key> = keys.iter().map(|_| takes_none(put)).collect();
     assert_eq!(again.len(), 1000);
+    let pool = Pool::<Point>::new();
+    pool.reserve(1000).expect("memory");
+    let put = |_| takes_none(|| pool.put_with(|_| ()).expect("a place"));
+    let keys: Vec<Key> = (0..1000).map(put).collect();
+    assert!(keys.iter().all(|key| pool.clear(*key)));
+    takes_none(|| pool.reserve(1000)).expect("they are free again");
+    let lane = pool.lane().expect("memory");
+    lane.reserve(500).expect("memory");
+    let put = |_| takes_none(|| lane.put_with(|_| ()).expect("a place"));
+    assert_eq!((0..500).map(put).collect::<Vec<Key>>().len(), 500);
 }
 
 /// An object that can't be emptied.
@@ -265,24 +288,7 @@ fn a_block_whose_object_was_dropped_has_the_next() {
     assert_eq!(lose(200), 0, "more memory was asked for");
 }
 
-/// Pages are opened without memory: by a lane in hand, and by calls of the thread's own lane and of one that is shared.
-#[test]
-fn pages_open_without_memory() {
-    let pool = Pool::<Buffer>::open(SHAPE).expect("memory for a pool");
-    let lane = pool.lane().expect("a lane");
-    let first = (pool.create(), pool.create_owned());
-    let by_lane = takes_none(|| [(); 6].map(|()| lane.create()));
-    let by_calls = takes_none(|| [(); 5].map(|()| pool.create()));
-    let owned = takes_none(|| [(); 5].map(|()| pool.create_owned()));
-    assert!(first.0.is_ok() && first.1.is_ok());
-    assert!(by_lane.iter().all(Result::is_ok));
-    assert!(by_calls.iter().all(Result::is_ok));
-    assert!(owned.iter().all(Result::is_ok));
-    assert_eq!((pool.census().filling, pool.census().unopened), (18, 6));
-    drop((first, by_lane, by_calls, owned));
-}
-
-/// The text of a leaked filling is dropped at the close, which leaves the row of places alone.
+/// The text of a leaked filling is dropped at the close.
 #[test]
 fn a_leaked_text_is_dropped() {
     let blocks = BLOCKS.get();
@@ -294,127 +300,65 @@ fn a_leaked_text_is_dropped() {
         if text == "leaked" {
             std::mem::forget(filling);
         } else {
-            filling.publish();
+            _ = filling.publish();
         }
     }
     drop(lane);
     assert_eq!(pool.close().filling, 1);
-    assert_eq!(BLOCKS.get() - blocks, 1);
+    assert_eq!(BLOCKS.get(), blocks);
 }
 
-/// The thread keeps two blocks until it ends: the list of its lanes, and a word of the pool that it called last.
+/// The thread keeps three blocks until it ends: the list of its shards, a share of the pool's registry, and what std has of its exit.
 #[test]
-fn each_request_of_calls_without_a_lane_is_refused() {
+fn each_request_of_calls_is_refused() {
     let tried = (0..).take_while(|granted| {
         let granted = *granted;
-        let run = std::thread::spawn(move || run(granted, without_lanes, 2));
+        let run = std::thread::spawn(move || run(granted, calls, 3));
         run.join().expect("no panic").is_some()
     });
-    assert!(tried.count() >= 25);
+    assert!(tried.count() >= 6);
 }
 
-/// A thread whose list of lanes finds no memory shares: the lane that it took comes home.
 #[test]
-fn a_lane_that_cannot_be_kept_comes_home() {
+fn each_request_of_chains_is_refused() {
+    refuse_each(chains, 1);
+}
+
+/// A thread whose list of shards finds no memory leaves its shard behind each create.
+#[test]
+fn a_shard_that_cannot_be_kept_is_left() {
     let shape = Shape { lanes: 1, ..SHAPE };
-    let pool = Pool::<Buffer>::open(shape).expect("memory for a pool");
-    let unknown = Key::try_from(1).expect("a key");
+    let pool = Pool::<Buffer>::open(shape).expect("a right shape");
+    drop(pool.lane().expect("memory"));
     let calls = || {
         GRANTED.set(0);
-        assert!(tried(|| pool.get(unknown)).is_none());
+        assert!(tried(|| pool.create()).is_ok());
         REFUSED.get()
     };
     let refused = std::thread::scope(|scope| scope.spawn(calls).join());
     assert_eq!(refused.expect("no panic"), 1);
-    let lane = pool.lane().expect("the thread has kept none");
-    assert_eq!(lane.number(), 0);
+    assert!(pool.lane().is_ok(), "the thread has kept none");
 }
 
 #[test]
 fn each_request_of_buffers_is_refused() {
-    refuse_each(buffers, 25);
+    refuse_each(buffers, 10);
 }
 
 #[test]
 fn each_request_of_texts_is_refused() {
-    refuse_each(texts, 19);
+    refuse_each(texts, 6);
 }
 
 #[test]
 fn each_request_of_objects_is_refused() {
-    refuse_each(objects, 15);
+    refuse_each(objects, 5);
 }
 
-/// What a create answers of which one request is refused, and whether any was.
-type End<P> = (Result<P, CreateError>, bool);
-
-/// The ends of creates of which the first request is refused, the second, and so on, as long as any is.
-fn ends_of<P: Send + 'static>(create: fn(u32) -> End<P>) -> Vec<End<P>> {
-    let run = |granted| std::thread::spawn(move || create(granted)).join();
-    let ends = (0..).map(|granted| run(granted).expect("no panic"));
-    ends.take_while(|(_, refused)| *refused).collect()
-}
-
-/// A create by a call, where all lanes are in hand: the lane that it had.
-fn create_beside_hands(granted: u32) -> End<u64> {
-    let pool = Pool::<Buffer>::growing().expect("memory for a pool");
-    let hands: Vec<_> = (0..12).map_while(|_| pool.lane()).collect();
-    GRANTED.set(granted);
-    let created = tried(|| pool.create().map(|filling| filling.publish()));
-    let lane = created.map(|key| {
-        assert!(pool.clear(key));
-        u64::from(key) >> 16 & 0xff
-    });
-    assert_eq!(hands.len(), 12);
-    drop(hands);
-    let census = pool.close();
-    assert_eq!((census.present, census.filling), (0, 0));
-    (lane, REFUSED.get() > 0)
-}
-
-/// Where a segment with more lanes finds no memory, the thread shares one of the first.
-#[test]
-fn a_thread_shares_where_more_lanes_find_no_memory() {
-    let is_shared = |(lane, _): &End<u64>| matches!(lane, Ok(lane) if (12..16).contains(lane));
-    let (shared, others): (Vec<_>, Vec<_>) = ends_of(create_beside_hands)
-        .into_iter()
-        .partition(is_shared);
-    assert!(shared.len() >= 10);
-    let answers = [Ok(16), Err(CreateError::Memory)];
-    assert!(others.iter().all(|(lane, _)| answers.contains(lane)));
-    assert_eq!(create_beside_hands(u32::MAX), (Ok(16), false));
-}
-
-/// A create where the places of the thread's lane and of the shared ones are in use: its segment, by the tag, and its lane.
-fn create_where_all_is_full(granted: u32) -> End<(u64, u64)> {
-    let pool = Pool::<Buffer>::growing().expect("memory for a pool");
-    let create = || pool.create().map(|filling| filling.publish());
-    for _ in 0..5 * 32 {
-        create().expect("a place");
-    }
-    GRANTED.set(granted);
-    let created = tried(create).map(u64::from);
-    let place = created.map(|key| (key >> 56, key >> 16 & 0xff));
-    (place, REFUSED.get() > 0)
-}
-
-/// Where a further segment finds no memory, a lane that nobody has is shared.
-#[test]
-fn a_lane_at_home_is_shared_where_growth_finds_no_memory() {
-    let is_shared = |(place, _): &End<(u64, u64)>| *place == Ok((0, 1));
-    let (shared, others): (Vec<_>, Vec<_>) = ends_of(create_where_all_is_full)
-        .into_iter()
-        .partition(is_shared);
-    assert!(shared.len() >= 10);
-    let refusal = Err(CreateError::Memory);
-    assert!(others.iter().all(|(place, _)| *place == refusal));
-    assert_eq!(create_where_all_is_full(u32::MAX), (Ok((1, 0)), false));
-}
-
-/// A buffer that is emptied under its lane's lock is used again, with its memory.
+/// A buffer that is emptied is used again, with its memory.
 #[test]
 fn an_owned_cycle_takes_no_memory() {
-    let pool = Pool::<Buffer>::growing().expect("memory for a pool");
+    let pool = Pool::<Buffer>::new();
     let cycle = |is_read: bool| {
         let mut filling = pool.create_owned().expect("a place");
         filling.append(&[7; 64]).expect("memory for the bytes");
@@ -442,8 +386,7 @@ fn what_another_lane_clears_comes_home() {
         pool.lane().expect("a second lane"),
     );
     let cycle = |is_read: bool| {
-        let key =
-            maker.create_with(|buffer| buffer.append(&[7; 64]).expect("memory for the bytes"));
+        let key = maker.put_with(|buffer| buffer.append(&[7; 64]).expect("memory for the bytes"));
         let key = key.expect("a place");
         let reader = is_read.then(|| other.get(key).expect("published"));
         assert!(other.clear(key));

@@ -1,10 +1,10 @@
-//! Calls without a lane in hand, owned handles, and room that grows.
+//! Calls of many threads, owned handles, and room that grows.
 mod common;
 #[path = "threads/owned.rs"]
 mod owned;
 
 use common::{at_once, limit, lock};
-use pardz::{Clear, CreateError, GetError, Key, OwnedFilling, OwnedRef, Pool, PoolRef, Shape};
+use pardz::{Clear, CreateError, Key, OwnedFilling, OwnedRef, Pool, Ref, Shape};
 use std::cell::{Cell, RefCell};
 use std::panic::{catch_unwind, AssertUnwindSafe};
 use std::sync::atomic::{AtomicUsize, Ordering::SeqCst};
@@ -22,7 +22,7 @@ fn shape(lanes: u32, first_page: u32, pages: u32) -> Shape {
 
 /// A number is published, read and cleared. Each is right.
 fn use_once(pool: &Pool<Vec<u64>>, number: u64) {
-    let key = pool.create_with(|list| list.push(number)).unwrap();
+    let key = pool.put_with(|list| list.push(number)).unwrap();
     let list = pool.get(key).expect("published");
     assert_eq!(*list, [number]);
     assert!(pool.clear(key));
@@ -34,7 +34,7 @@ fn use_once(pool: &Pool<Vec<u64>>, number: u64) {
 #[test]
 fn threads_that_come_and_go() {
     let _limit = limit();
-    let pool = Pool::<Vec<u64>>::growing().unwrap();
+    let pool = Pool::<Vec<u64>>::new();
     for round in 0..20 {
         let pool = &pool;
         at_once((0..64).map(|thread| {
@@ -50,7 +50,7 @@ fn threads_that_come_and_go() {
 #[test]
 fn thousands_of_short_threads() {
     let _limit = limit();
-    let pool = Arc::new(Pool::<Vec<u64>>::open(shape(2, 1, 1)).unwrap());
+    let pool = Arc::new(Pool::<Vec<u64>>::open(shape(1, 1, 1)).unwrap());
     for number in 0..2000 {
         let shared = Arc::clone(&pool);
         thread::spawn(move || use_once(&shared, number))
@@ -60,16 +60,15 @@ fn thousands_of_short_threads() {
     assert_eq!(pool.census().present, 0);
 }
 
-/// More threads than lanes hand keys around: each reads and clears what others published.
+/// Threads hand keys around: each reads and clears what others published.
 #[test]
-fn more_threads_than_lanes() {
+fn threads_clear_for_each_other() {
     const THREADS: u64 = 32;
     const ROUNDS: u64 = 300;
     let _limit = limit();
     for pool in [
-        Pool::<Vec<u64>>::growing().unwrap(),
-        Pool::open(shape(1, 64, 4)).unwrap(),
-        Pool::open(shape(4, 64, 4)).unwrap(),
+        Pool::<Vec<u64>>::new(),
+        Pool::open(shape(THREADS as u32, 64, 4)).unwrap(),
     ] {
         let lent = Mutex::new(Vec::<(Key, u64)>::new());
         let cleared = AtomicUsize::new(0);
@@ -78,7 +77,7 @@ fn more_threads_than_lanes() {
             move || {
                 for round in 0..ROUNDS {
                     let number = thread * ROUNDS + round;
-                    let key = pool.create_with(|list| list.push(number)).unwrap();
+                    let key = pool.put_with(|list| list.push(number)).unwrap();
                     let other = {
                         let mut lent = lock(lent);
                         lent.push((key, number));
@@ -101,8 +100,8 @@ fn more_threads_than_lanes() {
 
 /// So many objects are open at once; all are read back by other threads, and cleared.
 fn open_at_once(count: u64) {
-    let pool = Pool::<Vec<u64>>::growing().unwrap();
-    let publish = |number| pool.create_with(|list| list.push(number)).unwrap();
+    let pool = Pool::<Vec<u64>>::new();
+    let publish = |number| pool.put_with(|list| list.push(number)).unwrap();
     let keys: Vec<Key> = (0..count).map(publish).collect();
     let distinct: std::collections::HashSet<_> = keys.iter().collect();
     assert_eq!(distinct.len() as u64, count);
@@ -119,7 +118,8 @@ fn open_at_once(count: u64) {
     }));
     assert_eq!(pool.census().present, 0);
     let places = pool.census().free;
-    (0..count).for_each(|number| assert!(u64::from(publish(number)) > 0));
+    let again: Vec<Key> = (0..count).map(publish).collect();
+    assert!(again.iter().all(|key| pool.contains(*key)));
     assert_eq!(pool.census().present as u64, count);
     assert!(pool.census().free <= places, "places are used again");
 }
@@ -138,10 +138,10 @@ fn a_million_are_open() {
 
 #[test]
 fn lanes_in_hand_grow_too() {
-    let pool = Pool::<Vec<u64>>::growing().unwrap();
+    let pool = Pool::<Vec<u64>>::new();
     let (lane, other) = (pool.lane().unwrap(), pool.lane().unwrap());
     let keys: Vec<_> = (0..20_000)
-        .map(|number| lane.create_with(|list| list.push(number)).unwrap())
+        .map(|number| lane.put_with(|list| list.push(number)).unwrap())
         .collect();
     let held: Vec<_> = keys.iter().map(|key| other.get(*key).unwrap()).collect();
     for (number, key) in (0..).zip(&keys) {
@@ -155,101 +155,55 @@ fn lanes_in_hand_grow_too() {
         assert!(!lane.clear(*key) && lane.get(*key).is_none());
     }
     assert!((0..).zip(&held).all(|(number, list)| **list == [number]));
-    assert!(held.iter().all(|list| list.try_clone().is_none()));
+    let clones = held.clone();
     drop(held);
+    assert!((0..).zip(&clones).all(|(number, list)| **list == [number]));
+    drop(clones);
     let mut filling = lane.create().unwrap();
     filling.push(1);
     let list = filling.downgrade();
-    assert_eq!(*list.try_clone().unwrap(), [1]);
+    assert_eq!(*list.clone(), [1]);
     drop(list);
     drop((lane, other));
     assert_eq!(pool.close().present, 1);
 }
 
-/// Its own three lanes and the one that is shared have two places each.
+/// Each of its three shards has two places, and the thread has all of them.
 #[test]
 fn a_full_pool_that_does_not_grow() {
     let pool = Pool::<String>::open(shape(3, 2, 1)).unwrap();
     assert_eq!(pool.census().unopened, 6);
-    let keys: Vec<_> = (0..8).map(|_| pool.put("x").unwrap()).collect();
+    let keys: Vec<_> = (0..6).map(|_| pool.put("x").unwrap()).collect();
     assert_eq!(pool.put("y").err(), Some(CreateError::Full));
     assert_eq!(pool.create_owned().err(), Some(CreateError::Full));
+    at_once([|| assert_eq!(pool.create().err(), Some(CreateError::NoLane))]);
     for key in &keys {
         assert!(pool.clear(*key));
         assert!(pool.clear(pool.put("y").unwrap()));
     }
-    assert_eq!(pool.census().free, 8);
-    assert_eq!(pool.close().free, 8);
+    assert_eq!(pool.census().free, 6);
+    assert_eq!(pool.close().free, 6);
 }
 
-/// All calls without a lane, where all lanes are in hand. The lanes see what these did.
-fn calls_beside(pool: &Pool<Vec<u64>>, lanes: &[pardz::Lane<'_, Vec<u64>>]) {
-    assert!(pool.lane().is_none());
-    for (number, lane) in (0..).zip(lanes) {
-        use_once(pool, number);
-        let key = lane.create_with(|list| list.push(number)).unwrap();
-        let list = pool.get(key).unwrap();
-        let owned = pool.get_owned(key).unwrap();
-        assert!(pool.clear(key) && lane.get(key).is_none());
-        assert_eq!((&*list, &*owned), (&vec![number], &vec![number]));
-        let mut filling = pool.create_owned().unwrap();
-        filling.push(number);
-        let key = filling.publish();
-        assert_eq!(*lane.get(key).unwrap(), [number]);
-        assert!(lane.clear(key));
-        let mut filling = pool.create().unwrap();
-        filling.push(number);
-        let list = filling.downgrade();
-        assert!(lane.clear(list.key()));
-        drop(pool.create().unwrap());
-    }
-}
-
+/// Where all shards are in hand all calls but a create are as ever.
 #[test]
 fn all_lanes_in_hand() {
-    for count in [1, 2, 7, 15] {
-        let pool = Pool::<Vec<u64>>::open(shape(count, 32, 1)).unwrap();
+    for count in [1, 2, 7, 64] {
+        let pool = Pool::<Vec<u64>>::open(shape(count, 2, 1)).unwrap();
         let lanes: Vec<_> = (0..count).map(|_| pool.lane().unwrap()).collect();
-        let (shared, _limit) = (&pool, limit());
-        at_once((0..20).map(|number| move || use_once(shared, number)));
-        calls_beside(&pool, &lanes);
+        assert_eq!(pool.lane().err(), Some(CreateError::NoLane));
+        assert_eq!(pool.create().err(), Some(CreateError::NoLane));
+        assert_eq!(pool.create_owned().err(), Some(CreateError::NoLane));
+        for (number, lane) in (0..).zip(&lanes) {
+            let key = lane.put_with(|list| list.push(number)).unwrap();
+            let (list, owned) = (pool.get(key).unwrap(), pool.get_owned(key).unwrap());
+            assert!(pool.clear(key) && lane.get(key).is_none());
+            assert_eq!((&*list, &*owned), (&vec![number], &vec![number]));
+        }
         drop(lanes);
-        // Those that are home again may be taken again.
-        let lanes: Vec<_> = (0..count).map_while(|_| pool.lane()).collect();
-        assert_eq!(lanes.len(), count as usize);
-        drop(lanes);
-        let now = pool.census();
-        let census = pool.close();
-        assert_eq!(now, census);
-        assert_eq!((census.present, census.marked, census.filling), (0, 0, 0));
-        assert_eq!(census.free + census.unopened, 32 * (count + 1));
+        use_once(&pool, 5);
+        assert_eq!(pool.census(), pool.close());
     }
-    let growing = Pool::<Vec<u64>>::growing().unwrap();
-    let lanes: Vec<_> = (0..).map_while(|_| growing.lane()).collect();
-    assert_eq!(lanes.len(), 12);
-    calls_beside(&growing, &lanes);
-}
-
-/// A pool of 64 lanes has none more to share: where all are in hand, a create tells it, and other calls panic.
-#[test]
-fn all_sixty_four_lanes_in_hand() {
-    let pool = Pool::<String>::open(shape(64, 2, 1)).unwrap();
-    let mut lanes: Vec<_> = (0..64).map(|_| pool.lane().unwrap()).collect();
-    let key = lanes[0].put("x").unwrap();
-    assert_eq!(pool.put("y").err(), Some(CreateError::NoLane));
-    assert_eq!(pool.create_owned().err(), Some(CreateError::NoLane));
-    let panics = |run: &dyn Fn() -> bool| catch_unwind(AssertUnwindSafe(run)).is_err();
-    assert!(panics(&|| pool.clear(key)));
-    assert!(panics(&|| pool.get(key).is_some()));
-    assert!(panics(&|| pool.get_owned(key).is_some()));
-    assert_eq!(pool.try_get(key).err(), Some(GetError::NoLane));
-    assert_eq!(pool.try_get_owned(key).err(), Some(GetError::NoLane));
-    lanes.pop();
-    assert_eq!(**pool.try_get(key).unwrap().as_ref().unwrap(), *"x");
-    assert!(pool.clear(key));
-    assert!(pool.try_get(key).unwrap().is_none());
-    assert!(pool.clear(pool.put("y").unwrap()));
-    assert!(pool.lane().is_none(), "it is shared now");
 }
 
 #[test]
@@ -264,7 +218,7 @@ fn lanes_come_home_from_threads() {
         let lanes: Vec<_> = (0..4)
             .map(|_| pool.lane().expect("four are home"))
             .collect();
-        assert!(pool.lane().is_none());
+        assert!(pool.lane().is_err());
         drop(lanes);
     }
 }
@@ -273,7 +227,7 @@ fn lanes_come_home_from_threads() {
 
 fn links() -> &'static Arc<Pool<Link>> {
     static LINKS: OnceLock<Arc<Pool<Link>>> = OnceLock::new();
-    LINKS.get_or_init(|| Arc::new(Pool::growing().unwrap()))
+    LINKS.get_or_init(|| Arc::new(Pool::new()))
 }
 
 thread_local! {
@@ -293,7 +247,7 @@ impl Clear for Link {
         if let Some(next) = self.next.take() {
             assert!(links().get(next).is_some());
             assert!(links().clear(next));
-            let key = links().create_with(|_| ()).unwrap();
+            let key = links().put_with(|_| ()).unwrap();
             let inner = EMPTIED.get();
             assert!(links().clear(key));
             drop(links().create().unwrap());
@@ -304,7 +258,7 @@ impl Clear for Link {
     }
 }
 
-/// A long chain by its thread's lane, by shared lanes, and by owned references, on small stacks.
+/// A long chain by keys, and by owned references, on small stacks.
 #[test]
 fn chains_let_go() {
     let _limit = limit();
@@ -313,7 +267,7 @@ fn chains_let_go() {
         let mut last = None;
         for _ in 0..count {
             let key = links()
-                .create_with(|link| {
+                .put_with(|link| {
                     let before = last.take();
                     if by_reference {
                         link.held = before.map(|key| {
@@ -346,15 +300,15 @@ fn chains_let_go() {
 }
 
 thread_local! {
-    static LAST: RefCell<Option<PoolRef<'static, Link>>> = const { RefCell::new(None) };
+    static LAST: RefCell<Option<Ref<'static, Link>>> = const { RefCell::new(None) };
 }
 
-/// References in thread-locals are dropped when the thread's lane is gone already.
+/// References in thread-locals are dropped when the thread has left its shard already.
 #[test]
 fn a_thread_ends_while_its_references_live() {
     let _limit = limit();
     for _ in 0..100 {
-        let key = links().create_with(|_| ()).unwrap();
+        let key = links().put_with(|_| ()).unwrap();
         thread::spawn(move || {
             LAST.with(|last| *last.borrow_mut() = links().get(key));
             assert!(links().clear(key));
@@ -365,12 +319,12 @@ fn a_thread_ends_while_its_references_live() {
     }
 }
 
-/// Calls from the destructor of a thread-local, by which the lane is gone already.
+/// Calls from the destructor of a thread-local, when the thread has left its shard already.
 struct Caller;
 
 impl Drop for Caller {
     fn drop(&mut self) {
-        let key = links().create_with(|_| ()).unwrap();
+        let key = links().put_with(|_| ()).unwrap();
         assert!(links().get(key).is_some());
         assert!(links().clear(key));
         drop(links().create().unwrap());
@@ -390,7 +344,7 @@ fn calls_while_a_thread_ends() {
     for _ in 0..50 {
         thread::spawn(|| {
             CALLER.with(|_| ());
-            let key = links().create_with(|_| ()).unwrap();
+            let key = links().put_with(|_| ()).unwrap();
             assert!(links().clear(key));
         })
         .join()
@@ -425,10 +379,10 @@ impl Clear for Touchy {
 
 #[test]
 fn panics_lose_their_object_at_most() {
-    let pool = Arc::new(Pool::<Touchy>::growing().unwrap());
+    let pool = Arc::new(Pool::<Touchy>::new());
     let panics = |run: &mut dyn FnMut()| catch_unwind(AssertUnwindSafe(run)).is_err();
     for own in [true, false] {
-        let touchy = || pool.create_with(|touchy| touchy.0 = true).unwrap();
+        let touchy = || pool.put_with(|touchy| touchy.0 = true).unwrap();
         assert!(panics(&mut || assert!(pool.clear(touchy()))));
         assert!(panics(&mut || {
             let _open = pool.create().unwrap();
@@ -439,7 +393,7 @@ fn panics_lose_their_object_at_most() {
             open.0 = true;
         }));
         assert!(panics(&mut || {
-            pool.create_with(|_| panic!("in the closure")).unwrap();
+            _ = pool.put_with(|_| panic!("in the closure"));
         }));
         let key = touchy();
         let held = pool.get_owned(key).unwrap();

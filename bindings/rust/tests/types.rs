@@ -44,7 +44,7 @@ fn a_type_without_bytes() {
     let pool = Pool::<Nothing>::open(shape(2, 4)).unwrap();
     let (lane, other) = (pool.lane().unwrap(), pool.lane().unwrap());
     for _ in 0..10 {
-        let keys: Vec<Key> = (0..4).map(|_| lane.create_with(|_| ()).unwrap()).collect();
+        let keys: Vec<Key> = (0..4).map(|_| lane.put_with(|_| ()).unwrap()).collect();
         for key in keys {
             let held = other.get(key).unwrap();
             assert_eq!(size_of_val(&*held), 0);
@@ -92,7 +92,7 @@ fn aligned_and_large() {
     );
     let (lane, large_lane) = (aligned.lane().unwrap(), large.lane().unwrap());
     let keys: Vec<Key> = (0..8)
-        .map(|number| lane.create_with(|object| object.0 = number).unwrap())
+        .map(|number| lane.put_with(|object| object.0 = number).unwrap())
         .collect();
     for (number, key) in keys.into_iter().enumerate() {
         let object = lane.get(key).unwrap();
@@ -101,9 +101,7 @@ fn aligned_and_large() {
         assert_eq!(object.0, number as u8);
     }
     for round in 0..10 {
-        let key = large_lane
-            .create_with(|object| object.0.fill(round))
-            .unwrap();
+        let key = large_lane.put_with(|object| object.0.fill(round)).unwrap();
         assert!(large_lane
             .get(key)
             .unwrap()
@@ -122,7 +120,7 @@ fn borrowed_contents() {
     let pool = Pool::<Vec<&str>>::open(shape(2, 4)).unwrap();
     let lane = pool.lane().unwrap();
     let key = lane
-        .create_with(|words| words.extend(text.split(' ')))
+        .put_with(|words| words.extend(text.split(' ')))
         .unwrap();
     thread::scope(|scope| {
         let other = pool.lane().unwrap();
@@ -190,24 +188,22 @@ fn what_is_leaked() {
     let pool = Pool::<Counted>::open(shape(2, 4)).unwrap();
     let (lane, other) = (pool.lane().unwrap(), pool.lane().unwrap());
     let fill = |object: &mut Counted| object.0 = Some(Arc::clone(&alive));
-    let marked = lane.create_with(fill).unwrap();
-    let present = lane.create_with(fill).unwrap();
+    let marked = lane.put_with(fill).unwrap();
+    let present = lane.put_with(fill).unwrap();
     forget(other.get(marked).unwrap());
     forget(other.get(present).unwrap());
     forget(lane.get(present).unwrap());
     assert!(lane.clear(marked));
     forget(lane.create().unwrap());
-    lane.create().unwrap().forget();
+    forget(lane.create().unwrap());
     assert_eq!(lane.create().err(), Some(CreateError::Full));
-    assert_eq!((lane.references(), other.references()), (1, 2));
     forget(other);
     assert_eq!(Arc::strong_count(&alive), 3);
-    // Who takes the lane next has its references, and may have more.
+    // (The shard of the lane that was forgotten is nobody else's.)
     drop(lane);
     let lane = pool.lane().unwrap();
-    assert_eq!((lane.number(), lane.references()), (0, 1));
     assert!(lane.get(present).is_some());
-    assert!(pool.lane().is_none());
+    assert!(pool.lane().is_err());
     drop(lane);
     let now = pool.census();
     let census = pool.close();
@@ -240,7 +236,7 @@ fn the_last_generation() {
     let (lane, other) = (pool.lane().unwrap(), pool.lane().unwrap());
     for number in 0..12 {
         let key = lane
-            .create_with(|object| {
+            .put_with(|object| {
                 if object.0.is_none() {
                     *alive.lock().unwrap() += 1;
                     object.0 = Some(Arc::clone(&alive));

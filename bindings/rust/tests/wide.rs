@@ -2,7 +2,7 @@
 mod common;
 
 use common::{at_once, limit, lock};
-use pardz::{Clear, CreateError, Key, Lane, OpenError, Pool, Shape};
+use pardz::{Clear, CreateError, Field, Key, Lane, OpenError, Pool, Shape};
 use std::sync::Mutex;
 
 const MOST_LANES: u32 = 64;
@@ -40,7 +40,7 @@ fn opened(lanes: u32, first_page: u32, pages: u32) -> Pool<Number> {
 }
 
 fn put(lane: &Lane<Number>, number: u64) -> Key {
-    let key = lane.create_with(|object| object.0 = number);
+    let key = lane.put_with(|object| object.0 = number);
     key.expect("a place")
 }
 
@@ -51,13 +51,16 @@ fn place(key: Key) -> u64 {
 
 #[test]
 fn the_limits_of_a_shape() {
-    for wrong in [shape(65, 64, 1), shape(1, 64, 17), shape(1, 128, 1)] {
+    for (wrong, field) in [
+        (shape(65, 64, 1), Field::Lanes),
+        (shape(1, 64, 17), Field::Pages),
+        (shape(1, 128, 1), Field::FirstPage),
+    ] {
         let refused = Pool::<Number>::open(wrong).err();
-        assert_eq!(refused, Some(OpenError::Shape), "{wrong:?}");
+        assert_eq!(refused, Some(OpenError::Shape(field)), "{wrong:?}");
     }
     for (first_page, places) in [(64, PLACES_OF_A_LANE), (1, 4095 + 4 * 4096)] {
         let pool = opened(1, first_page, 16);
-        assert_eq!(pool.shape(), shape(1, first_page, 16));
         assert_eq!(pool.census().unopened, places);
         let closed = pool.close();
         assert_eq!((closed.unopened, closed.free), (places, 0));
@@ -104,24 +107,22 @@ fn sixty_four_threads_have_lanes() {
     // (Of each lane 64 objects may be passed, and each other thread may have one.)
     let pool = opened(MOST_LANES, 64, 2);
     let passed: Vec<_> = (0..MOST_LANES).map(|_| Mutex::new(None::<Key>)).collect();
-    let lanes: Vec<_> = (0..).map_while(|_| pool.lane()).collect();
-    let numbers = at_once(lanes.into_iter().map(|lane| {
+    let lanes: Vec<_> = (0..).map_while(|_| pool.lane().ok()).collect();
+    at_once((0..).zip(lanes).map(|(number, lane)| {
         let passed = &passed;
         move || {
             for round in 0..ROUNDS {
                 let mut filling = lane.create().expect("a place");
                 filling.0 = place(filling.key());
                 let key = filling.publish();
-                let to = (u64::from(lane.number()) + round) % u64::from(MOST_LANES);
+                let to = (number + round) % u64::from(MOST_LANES);
                 let before = lock(&passed[to as usize]).replace(key);
                 before
                     .into_iter()
                     .for_each(|key| take_and_clear(&lane, key));
             }
-            lane.number()
         }
     }));
-    assert_eq!(numbers, (0..MOST_LANES).collect::<Vec<_>>());
     let lane = pool.lane().expect("all came home");
     for left in passed {
         take_and_clear(
@@ -133,25 +134,6 @@ fn sixty_four_threads_have_lanes() {
     let closed = pool.close();
     assert_eq!((closed.present, closed.marked, closed.filling), (0, 0, 0));
     assert_eq!(closed.free + closed.unopened, MOST_LANES * (64 + 128));
-}
-
-/// Beside 63 lanes there is one more, for calls without a lane; beside 64 there is none.
-#[test]
-fn a_lane_beside_sixty_three() {
-    let pool = opened(63, 1, 1);
-    let lanes: Vec<_> = (0..).map_while(|_| pool.lane()).collect();
-    assert_eq!(lanes.len(), 63);
-    let key = pool.create_with(|object| object.0 = 5).expect("a place");
-    assert_eq!(place(key) >> 16, 63);
-    assert!(lanes
-        .iter()
-        .all(|lane| lane.get(key).is_some_and(|object| object.0 == 5)));
-    assert!(lanes[62].clear(key));
-    drop(lanes);
-    let pool = opened(64, 1, 1);
-    let lanes: Vec<_> = (0..).map_while(|_| pool.lane()).collect();
-    assert_eq!(lanes.len(), 64);
-    assert_eq!(pool.create().err(), Some(CreateError::NoLane));
 }
 
 /// Fills all places of these lanes. Each object has the number of its place.
@@ -181,7 +163,11 @@ fn fill_and_empty(threads: usize) {
     let _limit = limit();
     let pool = opened(LANES, 64, 16);
     let of_each = LANES as usize / threads;
-    let share = |_| (0..of_each).map_while(|_| pool.lane()).collect::<Vec<_>>();
+    let share = |_| {
+        (0..of_each)
+            .map_while(|_| pool.lane().ok())
+            .collect::<Vec<_>>()
+    };
     let shares: Vec<_> = (0..threads).map(share).collect();
     let filled = at_once(
         shares
@@ -218,25 +204,4 @@ fn all_places_by_one_thread() {
 #[test]
 fn all_places_by_four_threads() {
     fill_and_empty(4);
-}
-
-/// A pool that grows opens larger segments as it fills: 32, 64, 192, 960 places of each lane, and then 12,224 often.
-#[test]
-fn a_growing_pool_becomes_wide() {
-    let _limit = limit();
-    let pool = Pool::<Number>::growing().expect("a pool");
-    // (Of twelve lanes eight stay at home, so that the first one takes none of them.)
-    let lanes: Vec<_> = (0..4).map_while(|_| pool.lane()).collect();
-    let lane = &lanes[0];
-    let mut sizes = [32, 64, 192, 960, 12_224, 1000].into_iter();
-    for (tag, size) in (0..).zip(&mut sizes) {
-        for number in 0..size {
-            assert_eq!(u64::from(put(lane, number)) >> 56, tag);
-        }
-    }
-    let segments: u32 = [32, 64, 192, 960, 12_224, 12_224].iter().sum();
-    let census = pool.census();
-    let present = 32 + 64 + 192 + 960 + 12_224 + 1000;
-    assert_eq!(census.present, present);
-    assert_eq!(census.free + census.unopened, 16 * segments - present);
 }

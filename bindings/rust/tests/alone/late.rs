@@ -3,7 +3,7 @@ use super::*;
 
 fn two_pools() -> &'static [Pool<String>; 2] {
     static POOLS: OnceLock<[Pool<String>; 2]> = OnceLock::new();
-    POOLS.get_or_init(|| [(); 2].map(|()| Pool::open(shape(3, 32, 2)).unwrap()))
+    POOLS.get_or_init(|| [(); 2].map(|()| Pool::open(shape(4, 32, 2)).unwrap()))
 }
 
 /// Text of this pool and thread goes in, is seen by all, and out.
@@ -23,8 +23,8 @@ fn use_both(thread: usize, round: usize) {
 /// Calls both pools when its thread ends, with references and fillings of before.
 struct Late {
     thread: Cell<usize>,
-    held: RefCell<Vec<PoolRef<'static, String>>>,
-    filling: RefCell<Vec<pardz::PoolFilling<'static, String>>>,
+    held: RefCell<Vec<Ref<'static, String>>>,
+    filling: RefCell<Vec<pardz::Filling<'static, String>>>,
 }
 
 impl Drop for Late {
@@ -36,7 +36,7 @@ impl Drop for Late {
             assert_eq!(**reference, format!("late {thread} {number}"));
             let pool = &two_pools()[number % 2];
             assert!(pool.clear(reference.key()));
-            assert!(reference.try_clone().is_none());
+            assert_eq!(**reference.clone(), **reference);
         }
         drop(held);
         for filling in self.filling.take() {
@@ -92,8 +92,8 @@ fn two_pools_while_threads_end() {
         for pool in two_pools() {
             let census = pool.census();
             assert_eq!((census.present, census.marked, census.filling), (0, 0, 0));
-            let lanes: Vec<_> = (0..).map_while(|_| pool.lane()).collect();
-            assert_eq!(lanes.len(), 3, "all lanes came home");
+            let lanes: Vec<_> = (0..).map_while(|_| pool.lane().ok()).collect();
+            assert_eq!(lanes.len(), 4, "all shards were left");
         }
     });
 }
@@ -126,17 +126,17 @@ fn slow() -> &'static Pool<Slow> {
 }
 
 thread_local! {
-    static HELD: RefCell<Option<PoolRef<'static, Slow>>> = const { RefCell::new(None) };
+    static HELD: RefCell<Option<Ref<'static, Slow>>> = const { RefCell::new(None) };
 }
 
-/// A reference is let go of while its thread ends, and `clear` takes its time: others that take up the thread's lane meanwhile don't
-/// meet it.
+/// A reference is let go of while its thread ends, and `clear` takes its time: others that take up the thread's shard meanwhile don't
+/// meet it, and its place comes back.
 #[test]
-fn a_late_clear_meets_no_lane() {
-    alone("late::a_late_clear_meets_no_lane", || {
+fn a_late_clear_meets_nobody() {
+    alone("late::a_late_clear_meets_nobody", || {
         let ending = thread::spawn(|| {
             HELD.with_borrow_mut(|held| {
-                let key = slow().create_with(|slow| slow.waits = true).unwrap();
+                let key = slow().put_with(|slow| slow.waits = true).unwrap();
                 *held = slow().get(key);
                 assert!(slow().clear(key));
             });
@@ -144,10 +144,12 @@ fn a_late_clear_meets_no_lane() {
         while SLOW.load(SeqCst) != 1 {
             thread::yield_now();
         }
-        // It has let go of its last reference, and empties the object: its lane isn't given to anybody yet.
-        assert!(slow().lane().is_none(), "the lane is still used");
+        // (The one shard is left before or behind it.)
+        let others: Vec<_> = (0..7).map_while(|_| slow().create().ok()).collect();
+        assert!(slow().create().is_err());
         SLOW.store(2, SeqCst);
         ending.join().unwrap();
-        assert!(slow().lane().is_some());
+        let more: Vec<_> = (0..8).map_while(|_| slow().create().ok()).collect();
+        assert_eq!(others.len() + more.len(), 8);
     });
 }

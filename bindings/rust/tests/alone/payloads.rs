@@ -46,7 +46,7 @@ struct Node {
 
 fn nodes() -> &'static Pool<Node> {
     static NODES: OnceLock<Pool<Node>> = OnceLock::new();
-    NODES.get_or_init(|| Pool::growing().unwrap())
+    NODES.get_or_init(Pool::new)
 }
 
 impl Clear for Node {
@@ -65,7 +65,7 @@ impl Clear for Node {
 
 /// Published, held and cleared: the reference is the last to let go.
 fn cleared(fill: impl FnOnce(&mut Node)) -> OwnedRef<Node> {
-    let key = nodes().create_with(fill).unwrap();
+    let key = nodes().put_with(fill).unwrap();
     let held = nodes().get_owned(key).unwrap();
     assert!(nodes().clear(key));
     held
@@ -76,7 +76,7 @@ fn works_on() {
     for text in ["one", "two"] {
         let fill = |node: &mut Node| node.text.push_str(text);
         drop(cleared(fill));
-        let key = nodes().create_with(fill).unwrap();
+        let key = nodes().put_with(fill).unwrap();
         let (held, owned) = (nodes().get(key).unwrap(), nodes().get_owned(key).unwrap());
         assert!(nodes().clear(key));
         assert_eq!((&*held.text, &*owned.text), (text, text));
@@ -106,7 +106,7 @@ fn two_payloads_of_one_clear() {
                 node.keys = keys;
                 node.explodes = true;
             };
-            nodes().create_with(fill).unwrap()
+            nodes().put_with(fill).unwrap()
         };
         let inner = vec![exploding(vec![]), exploding(vec![])];
         let outer = exploding(inner);
@@ -123,7 +123,7 @@ fn exploding(name: &'static str, fill: impl FnOnce(&mut Node)) -> impl FnOnce(&m
     }
 }
 
-/// Of several panics of one call the first is handed on, and all objects are emptied: by an owned handle, whose lane is shared.
+/// Of several panics of one call the first is handed on, and all objects are emptied: by an owned handle.
 #[test]
 fn the_first_of_several_payloads_of_a_release() {
     alone(
@@ -141,15 +141,15 @@ fn the_first_of_several_payloads_of_a_release() {
     );
 }
 
-/// The same by a clear of the thread's own lane.
+/// The same by a clear.
 #[test]
 fn the_first_of_several_payloads_of_a_clear() {
     alone("payloads::the_first_of_several_payloads_of_a_clear", || {
-        let quiet = nodes().create_with(|node| node.text.push_str("quiet"));
+        let quiet = nodes().put_with(|node| node.text.push_str("quiet"));
         let others =
-            ["second", "third"].map(|name| nodes().create_with(exploding(name, |_| ())).unwrap());
+            ["second", "third"].map(|name| nodes().put_with(exploding(name, |_| ())).unwrap());
         let keys = vec![others[0], others[1], quiet.unwrap()];
-        let first = nodes().create_with(exploding("first", |node| node.keys = keys));
+        let first = nodes().put_with(exploding("first", |node| node.keys = keys));
         EMPTIED.store(0, SeqCst);
         assert_eq!(payload_of(|| nodes().clear(first.unwrap())), "first");
         assert_eq!(EMPTIED.load(SeqCst), 4);
@@ -173,7 +173,7 @@ fn explodes(node: &mut Node) {
 /// Panics, and lets go of an object then, which explodes.
 const WAYS: [fn(); 5] = [
     || {
-        let _clears = Clears(nodes().create_with(explodes).unwrap());
+        let _clears = Clears(nodes().put_with(explodes).unwrap());
         panic!("with a clear");
     },
     || {
@@ -181,7 +181,7 @@ const WAYS: [fn(); 5] = [
         panic!("with an owned reference");
     },
     || {
-        let key = nodes().create_with(explodes).unwrap();
+        let key = nodes().put_with(explodes).unwrap();
         let _held = nodes().get(key).unwrap();
         assert!(nodes().clear(key));
         panic!("with a reference");
@@ -205,13 +205,6 @@ fn payloads_while_unwinding() {
         for way in WAYS {
             assert!(panics(way));
             works_on();
-            // By a thread that shares lanes, as by one that has its own.
-            let lanes: Vec<_> = (0..).map_while(|_| nodes().lane()).collect();
-            at_once([|| {
-                assert!(panics(way));
-                works_on();
-            }]);
-            drop(lanes);
         }
     });
 }
@@ -228,11 +221,11 @@ fn parts_of_lists_while_unwinding() {
     fn of<T: Clear + Default + Extend<Part>>() {
         let pool = Pool::<T>::open(shape(1, 1, 1)).unwrap();
         let lane = pool.lane().unwrap();
-        assert!(panics(|| lane.create_with(|list| {
+        assert!(panics(|| lane.put_with(|list| {
             list.extend([Part]);
             panic!("on purpose")
         })));
-        let key = lane.create_with(|list| list.extend([Part])).unwrap();
+        let key = lane.put_with(|list| list.extend([Part])).unwrap();
         assert!(panics(|| {
             let _held = lane.get(key).unwrap();
             assert!(lane.clear(key));
@@ -260,7 +253,7 @@ fn a_lane_clears_while_unwinding() {
         let pool = Pool::<Node>::open(shape(1, 2, 1)).unwrap();
         let lane = pool.lane().unwrap();
         for _ in 0..5 {
-            let key = lane.create_with(|node| node.explodes = true).unwrap();
+            let key = lane.put_with(|node| node.explodes = true).unwrap();
             assert!(panics(|| {
                 let _clears = Clears(&lane, key);
                 panic!("on purpose");
@@ -279,7 +272,7 @@ fn a_filling_is_forgotten_while_unwinding() {
     struct Forgets<'l>(Option<pardz::Filling<'l, Node>>);
     impl Drop for Forgets<'_> {
         fn drop(&mut self) {
-            self.0.take().expect("one filling").forget();
+            mem::forget(self.0.take().expect("one filling"));
         }
     }
     alone("payloads::a_filling_is_forgotten_while_unwinding", || {

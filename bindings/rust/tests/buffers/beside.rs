@@ -186,13 +186,8 @@ fn a_clear_elsewhere_gives_the_place_back() {
     }
     assert_eq!(lane.create().err(), Some(CreateError::Full));
     let place = |key: Key| u64::from(key) & 0xff_ffff;
-    assert!(keys
-        .iter()
-        .all(|key| place(*key) == u64::from(lane.number()) << 16));
-    assert_eq!(
-        place(away.create().unwrap().key()),
-        u64::from(away.number()) << 16
-    );
+    assert!(keys.iter().all(|key| place(*key) == place(keys[0])));
+    assert_ne!(place(away.create().unwrap().key()), place(keys[0]));
 }
 
 /// Fills and passes on, and reads and clears what comes. Answers how many it read.
@@ -268,9 +263,10 @@ fn no_two_threads_have_one_lane() {
         for _ in 0..6 {
             scope.spawn(|| {
                 start.enter().wait();
-                for _ in 0..50_000 {
-                    let Some(lane) = pool.lane() else { continue };
-                    let is_taken = &is_taken[lane.number() as usize];
+                for _ in 0..20_000 {
+                    let Ok(lane) = pool.lane() else { continue };
+                    let key = u64::from(lane.create().unwrap().key());
+                    let is_taken = &is_taken[(key >> 16 & 0xff) as usize];
                     assert!(!is_taken.swap(true, SeqCst));
                     is_taken.store(false, SeqCst);
                 }

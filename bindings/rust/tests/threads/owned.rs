@@ -4,7 +4,7 @@ use super::*;
 #[test]
 fn owned_handles_travel() {
     let _limit = limit();
-    let pool = Arc::new(Pool::<Vec<u64>>::growing().unwrap());
+    let pool = Arc::new(Pool::<Vec<u64>>::new());
     let (send, receive) = mpsc::channel::<OwnedRef<Vec<u64>>>();
     let reader = thread::spawn(move || receive.into_iter().map(|list| list[0]).sum::<u64>());
     for number in 0..1000 {
@@ -54,10 +54,10 @@ impl Drop for Told {
 #[test]
 fn clones_live_on_when_the_key_is_cleared() {
     let _limit = limit();
-    let pool = Arc::new(Pool::<Told>::growing().unwrap());
+    let pool = Arc::new(Pool::<Told>::new());
     let emptied = Arc::new(AtomicUsize::new(0));
     let key = pool
-        .create_with(|told| told.emptied = Some(Arc::clone(&emptied)))
+        .put_with(|told| told.emptied = Some(Arc::clone(&emptied)))
         .unwrap();
     let first = pool.get_owned(key).unwrap();
     let second = first.clone();
@@ -79,13 +79,13 @@ fn clones_live_on_when_the_key_is_cleared() {
 #[test]
 fn the_last_handle_drops_the_pool() {
     let _limit = limit();
-    let pool = Arc::new(Pool::<Told>::growing().unwrap());
+    let pool = Arc::new(Pool::<Told>::new());
     let (emptied, dropped) = (Arc::new(AtomicUsize::new(0)), Arc::new(AtomicUsize::new(0)));
     let fill = |told: &mut Told| {
         told.emptied = Some(Arc::clone(&emptied));
         told.dropped = Some(Arc::clone(&dropped));
     };
-    let key = pool.create_with(fill).unwrap();
+    let key = pool.put_with(fill).unwrap();
     let told = pool.get_owned(key).unwrap();
     assert!(pool.clear(key));
     let filling: OwnedFilling<Told> = pool.create_owned().unwrap();
@@ -113,17 +113,17 @@ fn handles_of_five_threads(pool: &Pool<Told>, keys: &[Key]) -> Vec<Vec<OwnedRef<
     })
 }
 
-/// Handles of several lanes and segments outlive the pool, on several threads; memory goes with the last of them.
+/// Handles of several shards outlive the pool, on several threads; memory goes with the last of them.
 #[test]
 fn handles_outlive_the_pool() {
     let _limit = limit();
     for close in [false, true] {
-        let pool = Pool::<Told>::growing().unwrap();
+        let pool = Pool::<Told>::new();
         let dropped = Arc::new(AtomicUsize::new(0));
         let keys: Vec<_> = (0..3000)
             .map(|_| {
                 let fill = |told: &mut Told| told.dropped = Some(Arc::clone(&dropped));
-                pool.create_with(fill).unwrap()
+                pool.put_with(fill).unwrap()
             })
             .collect();
         let handles = handles_of_five_threads(&pool, &keys);
@@ -142,8 +142,7 @@ fn handles_outlive_the_pool() {
         for thread in threads.collect::<Vec<_>>() {
             thread.join().unwrap();
         }
-        // (Of two that were cleared, and are let go of at once, one may be dropped.)
-        assert!(dropped.load(SeqCst) < 10);
+        assert_eq!(dropped.load(SeqCst), 0);
         drop(filling.downgrade());
         drop(more);
         assert_eq!(dropped.load(SeqCst), 3000);
@@ -158,7 +157,7 @@ fn handles_and_the_pool_end_at_once() {
     for round in 0..300 {
         let pool = Pool::<Told>::open(shape(1 + round % 8, 8, 1)).unwrap();
         let fill = |told: &mut Told| told.dropped = Some(Arc::clone(&dropped));
-        let key = pool.create_with(fill).unwrap();
+        let key = pool.put_with(fill).unwrap();
         let handles: Vec<_> = (0..3).map(|_| pool.get_owned(key).unwrap()).collect();
         assert!(round % 2 == 0 || pool.clear(key));
         let ends = handles.into_iter().map(|handle| (Some(handle), None));
@@ -176,7 +175,7 @@ fn handles_and_the_pool_end_at_once() {
 #[test]
 fn handles_as_bytes_and_across_threads() {
     fn travels<T: Send + Sync + 'static>(_: &T) {}
-    let pool = Arc::new(Pool::<pardz::Buffer>::growing().unwrap());
+    let pool = Arc::new(Pool::<pardz::Buffer>::new());
     let filling = pool.create_owned().unwrap();
     travels(&filling);
     let bytes = filling.downgrade();

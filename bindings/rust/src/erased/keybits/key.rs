@@ -2,7 +2,7 @@
 
 //! Keys of published objects.
 
-use crate::erased::keybits::place::{generation_of, place_of, tag_of, Place};
+use crate::erased::keybits::place::Place;
 
 /// The key of a published object: its pool's tag, its place and its generation, packed into one number.
 ///
@@ -15,13 +15,6 @@ pub struct Key {
 }
 
 impl Key {
-    /// The key of a pool with tag 0, at this place and of this generation. None where the page is
-    /// over 15, the slot over 4095 or the generation is 0.
-    #[inline]
-    pub fn pack(place: Place, generation: u32) -> Option<Key> {
-        Key::pack_tagged(0, place, generation)
-    }
-
     /// The key of a pool with this tag, at this place and of this generation. None where the page
     /// is over 15, the slot over 4095 or the generation is 0.
     #[inline]
@@ -32,28 +25,6 @@ impl Key {
         let number =
             u64::from(place.number()) + (u64::from(generation) << 24) + (u64::from(tag) << 56);
         Some(Key { number })
-    }
-
-    /// The place and the generation that a key with tag 0 of this number has. None where the bits
-    /// 56 to 63 aren't all zero or the generation is 0. It is the inverse of `pack`.
-    #[inline]
-    pub fn unpack(number: u64) -> Option<(Place, u32)> {
-        match Key::unpack_tagged(number) {
-            Some((0, place, generation)) => Some((place, generation)),
-            _ => None,
-        }
-    }
-
-    /// The tag, the place and the generation that the key of this number has. None only where the
-    /// generation is 0. It is the inverse of `pack_tagged`.
-    #[inline]
-    pub fn unpack_tagged(number: u64) -> Option<(u8, Place, u32)> {
-        let generation = generation_of(number);
-        if generation == 0 {
-            return None;
-        }
-        let place = Place::of_number(place_of(number));
-        Some((tag_of(number), place, generation))
     }
 
     /// The number into which the key is packed.

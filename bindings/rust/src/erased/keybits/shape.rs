@@ -2,15 +2,8 @@
 
 //! Shapes of pools: their limits, and the places that they have.
 
-use crate::erased::keybits::place::{page_of, shard_of, slot_of};
-use std::error::Error;
-use std::fmt;
-
 /// The most lanes of a shape of the wide limits.
 pub const MOST_LANES: u32 = 64;
-
-/// The most lanes of a shape of the narrow limits.
-pub const NARROW_LANES: u32 = 16;
 
 /// The most places that the first page of a checked shape has.
 pub const LARGEST_FIRST_PAGE: u32 = 64;
@@ -20,9 +13,6 @@ pub const MOST_PAGES: u32 = 16;
 
 /// The most places of a page, which a slot's bits in a key have room for.
 pub const MOST_PAGE_PLACES: u32 = 4096;
-
-/// The most pages of a shape of the narrow limits.
-pub const NARROW_PAGES: u32 = 6;
 
 /// The greatest tag of a checked shape.
 pub const GREATEST_TAG: u32 = 255;
@@ -42,6 +32,8 @@ pub struct Shape {
     pub last_generation: u32,
     /// The pool's tag, which each of its keys carries.
     pub tag: u32,
+    /// How many guests there are: callers that own no shard. Their numbers follow those of the lanes.
+    pub guests: u32,
 }
 
 /// What is wrong with a shape: the first of its fields, in this order, that is outside its limits. Its numbers and its
@@ -60,56 +52,7 @@ pub enum ShapeFault {
     Tag,
 }
 
-impl ShapeFault {
-    /// The fault's number: 1 for the lanes, 2 for the first page, 3 for the pages, 4 for the last
-    /// generation and 6 for the tag.
-    #[inline]
-    pub fn number(&self) -> u32 {
-        match self {
-            ShapeFault::Lanes => 1,
-            ShapeFault::FirstPage => 2,
-            ShapeFault::Pages => 3,
-            ShapeFault::Generation => 4,
-            ShapeFault::Tag => 6,
-        }
-    }
-
-    /// The fault's name.
-    #[inline]
-    pub fn name(&self) -> &'static str {
-        match self {
-            ShapeFault::Lanes => "Lanes",
-            ShapeFault::FirstPage => "FirstPage",
-            ShapeFault::Pages => "Pages",
-            ShapeFault::Generation => "Generation",
-            ShapeFault::Tag => "Tag",
-        }
-    }
-}
-
-impl fmt::Display for ShapeFault {
-    fn fmt(&self, f: &mut fmt::Formatter<'_>) -> fmt::Result {
-        f.write_str(match self {
-            ShapeFault::Lanes => "the number of lanes is not from 1 to 16",
-            ShapeFault::FirstPage => "the size of the first page is not 1, 2, 4, 8, 16, 32 or 64",
-            ShapeFault::Pages => "the number of pages is not from 1 to 6",
-            ShapeFault::Generation => "the last generation is 0",
-            ShapeFault::Tag => "the tag is over 255",
-        })
-    }
-}
-
-impl Error for ShapeFault {}
-
 impl Shape {
-    /// Tests the fields by the narrow limits, in this order: the lanes are from 1 to 16, the first page has 1, 2, 4, 8,
-    /// 16, 32 or 64 places, the pages are from 1 to 6, the last generation is at least 1, the tag is at most 255. The
-    /// error names the first field that is outside its limits.
-    #[inline]
-    pub fn check(&self) -> Result<(), ShapeFault> {
-        self.check_within(NARROW_LANES, NARROW_PAGES)
-    }
-
     /// Tests the fields as `check` does, by the wide limits: the lanes are from 1 to 64 and the pages from 1 to 16.
     #[inline]
     pub fn check_wide(&self) -> Result<(), ShapeFault> {
@@ -149,60 +92,6 @@ impl Shape {
         self.places_before(self.pages)
     }
 
-    /// How many places a checked shape has.
-    #[inline]
-    pub fn all_places(&self) -> usize {
-        (self.lanes * self.shard_places()) as usize
-    }
-
-    /// Whether this is the number of a place of the shape. The shape need not be checked.
-    #[inline]
-    pub fn is_place(&self, place: u32) -> bool {
-        let page = page_of(place);
-        shard_of(place) < self.lanes
-            && page < self.pages
-            && u64::from(slot_of(place)) < self.slots(page)
-    }
-
-    /// Which place of its shard a place of a checked shape is, counted from 0.
-    #[inline]
-    pub fn index(&self, place: u32) -> usize {
-        (self.places_before(page_of(place)) + slot_of(place)) as usize
-    }
-
-    /// Which place of all a place of a checked shape is, counted from 0, shard after shard.
-    #[inline]
-    pub fn position(&self, place: u32) -> usize {
-        (shard_of(place) * self.shard_places()) as usize + self.index(place)
-    }
-
-    /// The place of a checked shape that has this position. It is the inverse of `position`.
-    #[inline]
-    pub fn place_at(&self, position: usize) -> u32 {
-        let position = position as u32;
-        let places = self.shard_places();
-        self.place_in_shard(position / places, position % places)
-    }
-
-    /// The place of a shard of a checked shape that has this index.
-    #[inline]
-    fn place_in_shard(&self, shard: u32, index: u32) -> u32 {
-        let page = self.page_at(index);
-        (shard << 16) + (page << 12) + (index - self.places_before(page))
-    }
-
-    /// The page of a shard of a checked shape in which the place with this index is.
-    #[inline]
-    fn page_at(&self, index: u32) -> u32 {
-        let past = index + self.first_page;
-        if past < 2 * MOST_PAGE_PLACES {
-            (past / self.first_page).ilog2()
-        } else {
-            // Pages have 4096 = 2^12 places from number 12 - log2(first_page) on, and 11 is one less.
-            past / MOST_PAGE_PLACES + 11 - self.first_page.ilog2()
-        }
-    }
-
     /// How many places of a shard of a checked shape come before a page.
     #[inline]
     fn places_before(&self, page: u32) -> u32 {
@@ -212,12 +101,6 @@ impl Shape {
         } else {
             (page + self.first_page.ilog2() - 11) * MOST_PAGE_PLACES - self.first_page
         }
-    }
-
-    /// How many slots a page has; the shape need not be checked.
-    #[inline]
-    fn slots(&self, page: u32) -> u64 {
-        (u64::from(self.first_page) << page).min(u64::from(MOST_PAGE_PLACES))
     }
 }
 

@@ -87,12 +87,6 @@ pub fn is_hit(key: u64, word: u64) -> bool {
     life.generation == generation_of(key) && life.state == State::Present
 }
 
-/// Whether a place with this lifecycle word is PRESENT: its object can be got.
-#[inline]
-pub fn is_present(word: u64) -> bool {
-    Life::of_word(word).state == State::Present
-}
-
 /// Whether the one who takes one from the count, and finds this word, owes a claim: MARKED with
 /// count 1.
 #[inline]
@@ -110,29 +104,6 @@ pub fn claimable(generation: u32) -> u64 {
         state: State::Marked,
     };
     life.word()
-}
-
-/// The lifecycle word after a step that adds one to the count, which is below 1073741823.
-#[inline]
-pub fn entered(word: u64) -> u64 {
-    word + ONE_COUNT
-}
-
-/// The lifecycle word after a step that takes one from the count, which is at least 1.
-#[inline]
-pub fn left(word: u64) -> u64 {
-    word - ONE_COUNT
-}
-
-/// The lifecycle word after an object was published at an idle place; with a reference one is added
-/// to the count, which is then below 1073741823.
-#[inline]
-pub fn published(word: u64, with_ref: bool) -> u64 {
-    if with_ref {
-        word + PUBLISHED_BIT + ONE_COUNT
-    } else {
-        word + PUBLISHED_BIT
-    }
 }
 
 /// The lifecycle word after the object was marked, for a place that is present or marked and has a
