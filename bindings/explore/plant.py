@@ -19,6 +19,7 @@ import shutil
 import subprocess
 import sys
 import tempfile
+import threading
 import time
 
 HERE = os.path.dirname(os.path.abspath(__file__))
@@ -42,13 +43,16 @@ pub fn planted(number: u32) -> bool {
 }
 '''
 # A search passes by the scenarios that take longer.
-SECONDS_OF_A_SEARCH = 5
+SECONDS_OF_A_SEARCH = 1
+TESTS_OF_A_SEARCH = ("threads", "callbacks", "panics", "objects", "handles", "pools", "types", "refused", "random")
 SCENARIOS_ALONE = "SCENARIOS_ALONE" in os.environ
 # A program of which few seconds are run isn't worth more to its compiler.
 QUICK = ["-Copt-level=0"]
 # A test that runs longer than this hangs, and no test with a fault waits longer for a thread.
 SECONDS = 240
 SECONDS_OF_A_TEST = 30
+# In a search one that runs longer isn't worth to be named.
+MOST_SECONDS_OF_A_SEARCH = 10
 # So many schedules of a scenario are run where no fault is planted: `scenarios` runs them all.
 SCHEDULES_WITHOUT_A_FAULT = 200
 
@@ -172,6 +176,7 @@ class Build:
         self.sources = os.path.join(self.rust, "src")
         self.faults = faults
         self.built = {}
+        self.building = threading.Lock()
 
     def write(self):
         """Plants; answers the faults that need a copy of their own."""
@@ -185,10 +190,11 @@ class Build:
 
     def program(self, kind, name=""):
         """The path of a program, and what the compiler says where it refuses it."""
-        if (kind, name) not in self.built:
-            make = {"explore": self.make_scenarios, "test": self.make_test, "address": self.make_address}[kind]
-            self.built[kind, name] = make(name)
-        return self.built[kind, name]
+        with self.building:
+            if (kind, name) not in self.built:
+                make = {"explore": self.make_scenarios, "test": self.make_test, "address": self.make_address}[kind]
+                self.built[kind, name] = make(name)
+            return self.built[kind, name]
 
     def rustc(self, *words):
         words = ["rustc", "--edition", "2021", "-Awarnings", "-Copt-level=1", "-Cdebug-assertions=on", "-L", self.folder, *words]
@@ -220,11 +226,11 @@ class Build:
             wrong = self.rustc("--crate-type=rlib", "--crate-name=explorer", os.path.join(folder, "explorer", "lib.rs"), "-o", Build.explorer)
         extern = f"--extern=explorer={Build.explorer}"
         library, more = self.crate("explored", ["--cfg=pardz_explore", extern])
-        of_c, more_of_c = self.c_library(["--cfg=pardz_explore", extern])
+        externs = ["-L", os.path.dirname(Build.explorer), "-L", os.path.dirname(library), extern, f"--extern=pardz={library}"]
+        of_c, more_of_c = self.c_library(["--cfg=pardz_explore", *externs]) if not more else (None, None)
         out = os.path.join(self.folder, "scenarios")
         main = os.path.join(folder, "scenarios", "main.rs")
-        externs = ["-L", os.path.dirname(Build.explorer), extern, f"--extern=pardz={library}", f"--extern=pardz_c={of_c}"]
-        wrong = wrong or more or more_of_c or self.rustc(*QUICK, *externs, main, "-o", out)
+        wrong = wrong or more or more_of_c or self.rustc(*QUICK, *externs, f"--extern=pardz_c={of_c}", main, "-o", out)
         return out, wrong
 
     def make_test(self, name):
@@ -264,7 +270,7 @@ def misuses(sources, heading):
     return [re.sub(r"^# ", "", lines, flags=re.M) for lines in found]
 
 
-def run(build, finder, number):
+def run(build, finder, number, most=SECONDS):
     """What a finder says with a fault planted: None where it passes."""
     kind, *words = finder.split(" ")
     if kind == "misuse":
@@ -282,7 +288,7 @@ def run(build, finder, number):
     env = dict(os.environ, PLANTED=str(number), RUST_BACKTRACE="0", ASAN_OPTIONS="detect_leaks=0")
     env["PARDZ_TEST_SECONDS"] = str(SECONDS_OF_A_TEST)
     try:
-        made = subprocess.run(command, capture_output=True, text=True, errors="replace", timeout=SECONDS, env=env)
+        made = subprocess.run(command, capture_output=True, text=True, errors="replace", timeout=most, env=env)
     except subprocess.TimeoutExpired:
         return "HANGS"
     if not is_scenario and "running 1 test" not in made.stdout:
@@ -314,7 +320,7 @@ def candidates(build):
             sys.exit(f"FAIL explore {name} without a fault")
         found.append((time.time() - start, f"explore {name}"))
     found = [finder for seconds, finder in sorted(found) if seconds < SECONDS_OF_A_SEARCH]
-    for test in ("threads", "callbacks", "panics", "objects", "buffers", "types", "sharded_slab", "random", "refused", "growing"):
+    for test in TESTS_OF_A_SEARCH:
         with open(os.path.join(build.rust, "tests", test + ".rs"), encoding="utf-8") as file:
             text = file.read()
         found += [] if SCENARIOS_ALONE else [f"test {test} {name}" for name in re.findall(r"#\[test\]\n(?:#\[should_panic[^\n]*\n)?fn (\w+)", text)]
@@ -325,8 +331,8 @@ def judge(build, fault, search):
     """The line of a fault, and whether it was found."""
     where = f"{fault.number} {fault.file}: {fault.what}"
     if search:
-        told = ((finder, run(build, finder, fault.number)) for finder in search)
-        found = next((f"ok   {where}: {finder}: {said}" for finder, said in told if said), None)
+        told = ((finder, run(build, finder, fault.number, MOST_SECONDS_OF_A_SEARCH)) for finder in search)
+        found = next((f"ok   {where}: {finder}: {said}" for finder, said in told if said not in (None, "HANGS")), None)
         return found or f"FAIL {where}: nothing finds it", bool(found)
     if not fault.finder:
         return f"FAIL {where}: the list doesn't say what finds it", False

@@ -184,25 +184,34 @@ pub(crate) fn begin_counters() {
     SCHEDULE.fetch_add(1, SeqCst);
 }
 
-/// A counter of the whole process, which is 1 when a schedule begins, so that each finds the same.
+/// The first number of a schedule's threads.
+const FIRST_OF_A_SCHEDULE: u64 = 1 << 32;
+
+/// A counter of the whole process. Threads of a schedule count on from a number with which each schedule begins, so that each finds the same.
+/// What calls beside one counts from 1 on, and no number comes again, since it lasts.
 pub struct Counter {
-    number: AtomicU32,
+    number: AtomicU64,
     schedule: Number,
+    beside: Number,
 }
 
 impl Counter {
     pub const fn from_one() -> Counter {
         Counter {
-            number: AtomicU32::new(1),
+            number: AtomicU64::new(FIRST_OF_A_SCHEDULE),
             schedule: Number::new(0),
+            beside: Number::new(1),
         }
     }
 
     /// Counts one more, and answers the number before.
-    pub fn next(&self) -> u32 {
+    pub fn next(&self) -> u64 {
+        if !run::is_of_a_schedule() {
+            return self.beside.fetch_add(1, SeqCst);
+        }
         let schedule = SCHEDULE.load(SeqCst);
         if self.schedule.swap(schedule, SeqCst) != schedule {
-            self.number.0.store(1, SeqCst);
+            self.number.0.store(FIRST_OF_A_SCHEDULE, SeqCst);
         }
         self.number.fetch_add(1, Ordering::Relaxed)
     }

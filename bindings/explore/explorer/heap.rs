@@ -4,6 +4,7 @@ use std::alloc::{GlobalAlloc, Layout, System};
 use std::cell::Cell;
 use std::collections::HashMap;
 use std::mem;
+use std::ptr;
 use std::sync::{Mutex, MutexGuard, PoisonError};
 
 /// What stands in freed memory.
@@ -26,6 +27,10 @@ static KNOWN: Mutex<Known> = Mutex::new(Known {
 });
 
 thread_local! {
+    /// Which of this thread's next requests is refused, counted from 1; and how many it made since that was said.
+    static REFUSED: Cell<(u32, u32)> = const { Cell::new((0, 0)) };
+    /// What is done at that request, in place of refusing it.
+    static HOOK: Cell<Option<Hook>> = const { Cell::new(None) };
     /// Whether this thread does something with `KNOWN`, which takes and frees memory itself.
     static KNOWS: Cell<bool> = const { Cell::new(false) };
 }
@@ -45,6 +50,9 @@ fn with_known(with: impl FnOnce(&mut Known)) {
 // SAFETY: the system's allocator. Memory that isn't freed at once is freed later, once, by its own layout: before that nobody gets it.
 unsafe impl GlobalAlloc for Heap {
     unsafe fn alloc(&self, layout: Layout) -> *mut u8 {
+        if is_refused() {
+            return ptr::null_mut();
+        }
         // SAFETY: the caller's.
         let at = unsafe { System.alloc(layout) };
         begun(at, layout);
@@ -52,6 +60,9 @@ unsafe impl GlobalAlloc for Heap {
     }
 
     unsafe fn alloc_zeroed(&self, layout: Layout) -> *mut u8 {
+        if is_refused() {
+            return ptr::null_mut();
+        }
         // SAFETY: the caller's.
         let at = unsafe { System.alloc_zeroed(layout) };
         begun(at, layout);
@@ -76,6 +87,50 @@ unsafe impl GlobalAlloc for Heap {
         } else {
             // SAFETY: the caller's.
             unsafe { System.dealloc(at, layout) };
+        }
+    }
+}
+
+type Hook = *const dyn Fn();
+
+/// Does something of which the request of this number, counted from 1, is refused. Answers whether it came so far.
+pub fn refusing<R>(number: u32, with: impl FnOnce() -> R) -> (R, bool) {
+    REFUSED.set((number, 0));
+    let answer = with();
+    let (_, requests) = REFUSED.replace((0, 0));
+    (answer, requests >= number)
+}
+
+/// Does something at whose request of this number the allocator calls the hook. Answers whether it came so far.
+pub fn interrupting<'h, R>(
+    number: u32,
+    hook: &'h (dyn Fn() + 'h),
+    with: impl FnOnce() -> R,
+) -> (R, bool) {
+    // SAFETY: only the lifetime differs, and nobody calls it when this has returned.
+    let hook: &'static dyn Fn() = unsafe { mem::transmute(hook) };
+    HOOK.set(Some(hook));
+    let answer = refusing(number, with);
+    HOOK.set(None);
+    answer
+}
+
+/// Whether the request that a thread of a schedule makes now is to be refused.
+fn is_refused() -> bool {
+    let (number, requests) = REFUSED.get();
+    if number == 0 || !run::is_watched() {
+        return false;
+    }
+    REFUSED.set((number, requests + 1));
+    if requests + 1 != number {
+        return false;
+    }
+    match HOOK.take() {
+        None => true,
+        Some(hook) => {
+            // SAFETY: `interrupting` hasn't returned.
+            unsafe { (*hook)() };
+            false
         }
     }
 }

@@ -6,6 +6,7 @@
 #![deny(unsafe_op_in_unsafe_fn)]
 
 mod atomics;
+mod calls;
 mod clock;
 mod explore;
 mod heap;
@@ -16,8 +17,10 @@ mod walk;
 pub use atomics::{
     AtomicBool, AtomicPtr, AtomicU32, AtomicU64, AtomicUsize, Counter, Mutex, MutexGuard, Ordering,
 };
+pub use calls::{call, calls};
 pub use explore::{explore, stay, watch, Extent, Plan, Report, Work};
-pub use heap::Heap;
+pub use heap::{interrupting, refusing, Heap};
+pub use run::Steps;
 
 use memory::Access;
 use std::time::Duration;

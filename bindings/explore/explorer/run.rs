@@ -89,6 +89,26 @@ struct Word {
     made: Vec<usize>,
 }
 
+/// How many steps a call makes.
+#[derive(Clone, Copy, Debug, Default, PartialEq, Eq)]
+pub struct Steps {
+    /// On atomic words, and on the one of them on which it makes most.
+    pub atomic: usize,
+    pub on_a_word: usize,
+    pub locks: usize,
+}
+
+impl Steps {
+    /// The more of each.
+    pub(crate) fn or_more(self, other: Steps) -> Steps {
+        Steps {
+            atomic: self.atomic.max(other.atomic),
+            on_a_word: self.on_a_word.max(other.on_a_word),
+            locks: self.locks.max(other.locks),
+        }
+    }
+}
+
 /// What a step on an atomic word does by its ordering.
 #[derive(Clone, Copy)]
 pub(crate) struct Effect {
@@ -443,6 +463,25 @@ impl State {
         }
     }
 
+    fn steps_since(&self, count: usize, thread: usize) -> Steps {
+        let own = self.made[count..].iter();
+        let own = own.filter(|made| made.thread == thread);
+        let mut steps = Steps::default();
+        let mut words: HashMap<usize, usize> = HashMap::new();
+        for made in own {
+            match made.step.kind {
+                Kind::Read | Kind::Write => {
+                    steps.atomic += 1;
+                    *words.entry(made.step.at).or_default() += 1;
+                }
+                Kind::Lock => steps.locks += 1,
+                _ => (),
+            }
+        }
+        steps.on_a_word = words.into_values().max().unwrap_or(0);
+        steps
+    }
+
     fn fail(&mut self, what: String) {
         if self.failure.is_none() {
             self.failure = Some(format!("{what}\n{}", self.schedule()));
@@ -662,6 +701,17 @@ pub(crate) fn wait() {
 /// Looks at memory that isn't atomic.
 pub(crate) fn access(at: usize, access: Access, what: &str) {
     with_run(|run, thread| run.lock().access(thread, at, access, what));
+}
+
+/// How many steps all threads have made. None where this one is of no schedule.
+pub(crate) fn made() -> Option<usize> {
+    with_run(|run, _| run.lock().made.len())
+}
+
+/// This thread's steps behind so many of all threads.
+pub(crate) fn steps_since(count: usize) -> Steps {
+    let steps = with_run(|run, thread| run.lock().steps_since(count, thread));
+    steps.unwrap_or_default()
 }
 
 /// Whether the thread's memory is the scenario's. (It asks for none itself.)

@@ -36,8 +36,47 @@ pub struct Census {
     pub retired: u32,
 }
 
+#[repr(C)]
+struct Limits {
+    places: u64,
+    threads: u32,
+    first_tag: u32,
+    tags: u32,
+    last_generation: u32,
+}
+
+/// A reference of no lane.
+#[repr(C)]
+#[derive(Clone, Copy)]
+pub struct CRef {
+    at: *const u8,
+    len: usize,
+    key: u64,
+}
+
+impl CRef {
+    const NONE: CRef = CRef {
+        at: ptr::null(),
+        len: 99,
+        key: 99,
+    };
+
+    pub fn look(&self, text: &str) {
+        look(self.at, self.len, text);
+    }
+}
+
+/// A filling of no lane.
+#[repr(C)]
+#[derive(Clone, Copy, Default)]
+pub struct CFilling {
+    key: u64,
+    lent: usize,
+}
+
 const OK: u32 = 0;
 const EMPTY_LANE: u32 = 2;
+pub const NO_FILLING: u32 = 6;
 pub const NO_REFERENCE: u32 = 7;
 pub const GONE: u32 = 8;
 const SHARED: u32 = 14;
@@ -59,6 +98,22 @@ extern "C" {
     fn pardz_pool_clear(pool: *const Slot, from: u32, key: u64) -> u32;
     fn pardz_pool_census(pool: *const Slot, census: *mut Census) -> u32;
     fn pardz_detach(pool: *mut Slot, census: *mut Census) -> u32;
+    fn pardz_grow(limits: *const Limits, pool: *mut Slot) -> u32;
+    fn pardz_any_put(pool: *const Slot, bytes: *const u8, len: usize, key: *mut u64) -> u32;
+    fn pardz_any_create(pool: *const Slot, filling: *mut CFilling) -> u32;
+    fn pardz_any_append(
+        pool: *const Slot,
+        filling: *mut CFilling,
+        bytes: *const u8,
+        len: usize,
+    ) -> u32;
+    fn pardz_any_publish(pool: *const Slot, filling: *mut CFilling, key: *mut u64) -> u32;
+    fn pardz_any_drop(pool: *const Slot, filling: *mut CFilling) -> u32;
+    fn pardz_any_get(pool: *const Slot, key: u64, to: *mut CRef) -> u32;
+    fn pardz_any_clone(pool: *const Slot, of: *const CRef, to: *mut CRef) -> u32;
+    fn pardz_any_release(pool: *const Slot, of: *mut CRef) -> u32;
+    fn pardz_any_own(pool: *const Slot, of: *const CRef, owned: *mut Slot) -> u32;
+    fn pardz_any_clear(pool: *const Slot, key: u64) -> u32;
     fn pardz_own(pool: *const Slot, from: u32, key: u64, owned: *mut Slot) -> u32;
     fn pardz_own_again(owned: *const Slot, other: *mut Slot) -> u32;
     fn pardz_owned_bytes(owned: *const Slot, at: *mut *const u8, len: *mut usize) -> u32;
@@ -184,6 +239,78 @@ impl CPool {
         let owned = OwnedSlot::default();
         // SAFETY: the slot is empty.
         answer(unsafe { pardz_own(self.0.get(), from, key, owned.0.get()) }).map(|()| owned)
+    }
+}
+
+/// Calls by any thread.
+impl CPool {
+    pub fn grow(&self) {
+        let limits = Limits {
+            places: u64::MAX,
+            threads: u32::MAX,
+            first_tag: 0,
+            tags: 256,
+            last_generation: u32::MAX,
+        };
+        // SAFETY: the slot is empty, and no other thread uses it.
+        assert_eq!(unsafe { pardz_grow(&limits, self.0.get()) }, OK);
+    }
+
+    pub fn any_put(&self, text: &str) -> Answer<u64> {
+        let mut key = 0;
+        // SAFETY: the bytes and the key stand there.
+        let code = unsafe { pardz_any_put(self.0.get(), text.as_ptr(), text.len(), &mut key) };
+        answer(code).map(|()| key)
+    }
+
+    pub fn any_create(&self) -> Answer<CFilling> {
+        let mut filling = CFilling::default();
+        // SAFETY: a filling stands there.
+        answer(unsafe { pardz_any_create(self.0.get(), &mut filling) }).map(|()| filling)
+    }
+
+    pub fn any_append(&self, filling: &mut CFilling, text: &str) -> Answer {
+        // SAFETY: the filling and the bytes stand there.
+        answer(unsafe { pardz_any_append(self.0.get(), filling, text.as_ptr(), text.len()) })
+    }
+
+    pub fn any_publish(&self, filling: &mut CFilling) -> Answer<u64> {
+        let mut key = 0;
+        // SAFETY: the filling and the key stand there.
+        answer(unsafe { pardz_any_publish(self.0.get(), filling, &mut key) }).map(|()| key)
+    }
+
+    pub fn any_drop(&self, filling: &mut CFilling) -> Answer {
+        // SAFETY: the filling stands there.
+        answer(unsafe { pardz_any_drop(self.0.get(), filling) })
+    }
+
+    pub fn any_get(&self, key: u64) -> Answer<CRef> {
+        let mut found = CRef::NONE;
+        // SAFETY: a reference stands there.
+        answer(unsafe { pardz_any_get(self.0.get(), key, &mut found) }).map(|()| found)
+    }
+
+    pub fn any_clone(&self, of: &CRef) -> Answer<CRef> {
+        let mut more = CRef::NONE;
+        // SAFETY: both references stand there.
+        answer(unsafe { pardz_any_clone(self.0.get(), of, &mut more) }).map(|()| more)
+    }
+
+    pub fn any_release(&self, of: &mut CRef) -> Answer {
+        // SAFETY: a reference stands there.
+        answer(unsafe { pardz_any_release(self.0.get(), of) })
+    }
+
+    pub fn any_own(&self, of: &CRef) -> Answer<OwnedSlot> {
+        let owned = OwnedSlot::default();
+        // SAFETY: the reference stands there, and the slot is empty.
+        answer(unsafe { pardz_any_own(self.0.get(), of, owned.0.get()) }).map(|()| owned)
+    }
+
+    pub fn any_clear(&self, key: u64) -> Answer {
+        // SAFETY: the slot is the world's.
+        answer(unsafe { pardz_any_clear(self.0.get(), key) })
     }
 }
 

@@ -1,7 +1,8 @@
 //! What the explorer itself is to find, and that it leaves no outcome out.
 use crate::world::{Scenario, Within};
 use explorer::{
-    explore, reads, writes, AtomicPtr, AtomicU32, AtomicUsize, Extent, Mutex, Ordering, Plan,
+    explore, reads, refusing, writes, AtomicPtr, AtomicU32, AtomicUsize, Extent, Mutex, Ordering,
+    Plan, Steps,
 };
 use std::cell::{RefCell, UnsafeCell};
 use std::collections::BTreeSet;
@@ -117,6 +118,8 @@ fn sound() -> Vec<Scenario> {
             [|c| c.let_go(AcqRel), |c| c.let_go(AcqRel)],
             drop,
         ),
+        Scenario::new("counted", number, [count_steps, add], drop),
+        Scenario::new("refused", number, [refuse_second, add], drop),
         Scenario::new(
             "failed-exchange",
             number,
@@ -131,6 +134,33 @@ fn exchange_and_look(number: &AtomicU32) {
     if number.compare_exchange(0, 2, Relaxed, Relaxed) == Err(1) {
         assert_eq!(number.load(Relaxed), 1, "an older value is found");
     }
+}
+
+/// A call of four steps, and a lock.
+fn count_steps(number: &AtomicU32) {
+    let (lock, other) = (Mutex::new(()), AtomicU32::new(0));
+    explorer::call("a call", || {
+        number.fetch_add(1, Relaxed);
+        drop(lock.lock());
+        other.store(1, Relaxed);
+        number.fetch_sub(1, Relaxed);
+        number.load(Relaxed)
+    });
+    explorer::call("a call", || number.load(Relaxed));
+}
+
+/// The second request of a call is refused, and no other.
+fn refuse_second(number: &AtomicU32) {
+    let mut rows = [(); 3].map(|()| Vec::<u8>::new());
+    let reserve = || {
+        rows.each_mut().map(|row| {
+            number.load(Relaxed);
+            row.try_reserve_exact(1).is_ok()
+        })
+    };
+    assert_eq!(refusing(2, reserve), ([true, false, true], true));
+    assert_eq!(refusing(1, || ()), ((), false));
+    assert!(rows[1].try_reserve_exact(1).is_ok());
 }
 
 /// A number behind a flag.
@@ -222,6 +252,12 @@ pub fn check() {
             assert_eq!(failure, None, "{}", scenario.name);
         }
     }
+    let steps = Steps {
+        atomic: 4,
+        on_a_word: 3,
+        locks: 1,
+    };
+    assert_eq!(explorer::calls(), [("a call", steps)]);
     let programs = (0..PROGRAMS).map(compare).sum::<usize>();
     println!("ok   the explorer finds {} faults, and all {programs} outcomes of {PROGRAMS} drawn programs", faults.len());
 }

@@ -1,203 +1,287 @@
-//! Clears within clears: objects that hold others, by an owned handle or by a key.
-use crate::world::{emptied, shape, Scenario, Tracked};
-use pardz::{Clear, Key, Lane, OwnedRef, Pool};
+//! Clears within clears, and those that panic: objects that hold others, by an owned handle or by a key.
+use crate::world::{alive, emptied, shape, Scenario, Tracked};
+use pardz::{Census, Clear, Key, OwnedRef, Pool};
 use std::panic::{self, AssertUnwindSafe};
 use std::ptr;
-use std::sync::{Arc, Mutex};
 
 pub fn all() -> Vec<Scenario> {
+    let chain = || links(Panics::Never, false);
     vec![
         Scenario::new(
             "nested",
-            || chain(false),
-            [Chain::clear, Chain::hold],
-            both_emptied,
+            chain,
+            [Links::clear_first, |l: &Links| l.hold(0)],
+            all_emptied,
+        ),
+        Scenario::new(
+            "nested-both",
+            chain,
+            [Links::clear_first, |l: &Links| l.clear(1)],
+            all_emptied,
+        ),
+        Scenario::new(
+            "nested-held",
+            chain,
+            [Links::clear_first, |l: &Links| l.hold_and_clear(1)],
+            all_emptied,
+        ),
+        Scenario::new("nested-again", chain, [Links::clear_twice], |l| {
+            assert!(emptied() == 3 && l.end().free == 2)
+        }),
+        Scenario::new(
+            "nested-made",
+            chain,
+            [Links::clear_first, Links::make],
+            made_beside,
         ),
         Scenario::new(
             "nested-owned",
-            || chain(false),
-            [Chain::clear, Chain::hold_owned],
-            both_emptied,
+            || links(Panics::Never, true),
+            [Links::clear_first, |l: &Links| l.hold_owned(0)],
+            all_emptied,
         ),
         Scenario::new(
             "nested-panic",
-            || chain(true),
-            [Chain::clear, Chain::hold_owned],
+            || links(Panics::Clear, false),
+            [Links::clear_first, |l: &Links| l.hold_owned(0)],
+            second_emptied,
+        ),
+        Scenario::new(
+            "nested-owned-panic",
+            || links(Panics::Clear, true),
+            [Links::clear_first, |l: &Links| l.hold(0)],
             second_emptied,
         ),
         Scenario::new(
             "lost-and-made",
-            lost,
-            [Lost::lose, Lost::make],
-            Lost::finish,
+            || links(Panics::Clear, false),
+            [Links::clear_first, Links::make],
+            made_beside,
         ),
         Scenario::new(
             "nested-unwinding",
-            || chain(true),
-            [Chain::unwind, Chain::hold],
+            || links(Panics::Clear, false),
+            [Links::unwind, |l: &Links| l.hold(0)],
             second_emptied,
         )
         .forgetting(),
         Scenario::new(
+            "drop-panics",
+            || links(Panics::ClearAndDrop, false),
+            [Links::hold_and_clear_first, |l: &Links| l.hold(0)],
+            second_emptied,
+        )
+        .forgetting(),
+        Scenario::new("default-panics", unmade, [Unmade::make, Unmade::make], drop).bounded(2),
+        Scenario::new("default-panics-last", unmade, [Unmade::fail], drop),
+        Scenario::new(
             "nested-pools",
             two_pools,
-            [Outer::clear_first, Outer::clear_first],
-            |pools| {
-                assert_eq!(emptied(), 1, "the inner object is emptied");
-                drop(pools);
-            },
+            [TwoPools::clear, TwoPools::clear],
+            inner_emptied,
         ),
         Scenario::new(
-            "linked",
-            links,
-            [|l| l.clear(0), |l| l.clear(1)],
-            links_emptied,
-        ),
-        Scenario::new(
-            "linked-and-made",
-            made,
-            [Made::make_two, |made| made.links.clear(0)],
-            Made::finish,
-        ),
-        Scenario::new(
-            "linked-and-held",
-            links,
-            [|l| l.clear(0), |l| l.hold_and_clear(1)],
-            links_emptied,
-        ),
+            "plain",
+            plain,
+            [Plain::get, Plain::clear, Plain::make],
+            Plain::settle,
+        )
+        .bounded(2),
     ]
 }
 
-/// An object that holds another one.
-#[derive(Default)]
-struct Nested {
-    object: Tracked,
-    inner: Option<OwnedRef<Nested>>,
-    panics: bool,
+/// What of an object panics.
+#[derive(Clone, Copy, Debug, Default, PartialEq)]
+enum Panics {
+    #[default]
+    Never,
+    Clear,
+    ClearAndDrop,
 }
 
-impl Clear for Nested {
+/// An object that clears another one when it is cleared, or lets go of it. Its clear may panic, and its drop too.
+#[derive(Default)]
+struct Linked {
+    object: Tracked,
+    next: Option<(&'static Pool<Linked>, Key)>,
+    inner: Option<OwnedRef<Linked>>,
+    panics: Panics,
+}
+
+impl Clear for Linked {
     fn clear(&mut self) {
         self.inner = None;
-        assert!(!self.panics, "a clear that panics");
+        if let Some((pool, key)) = self.next.take() {
+            pool.clear(key);
+        }
+        assert_eq!(self.panics, Panics::Never, "a clear that panics");
         self.object.clear();
     }
 }
 
-/// An object under a key, which alone holds another one. Its clear may panic.
-struct Chain {
-    pool: Pool<Nested>,
-    key: Key,
+impl Drop for Linked {
+    fn drop(&mut self) {
+        assert_ne!(self.panics, Panics::ClearAndDrop, "a drop that panics");
+    }
 }
 
-fn chain(panics: bool) -> Chain {
-    let pool = Pool::<Nested>::open(shape(1, 4, 1)).expect("memory");
-    let lane = pool.lane().expect("nobody has it");
+/// Two objects, of which the first one has the second, in the only places of a pool.
+struct Links {
+    pool: Box<Pool<Linked>>,
+    keys: [Key; 2],
+}
+
+fn links(panics: Panics, is_owned: bool) -> Links {
+    let pool = Box::new(Pool::<Linked>::open(shape(1, 2, 1)).expect("a shape"));
+    // SAFETY: the pool's objects clear nothing when it is closed, so none calls it then.
+    let lasting: &'static Pool<Linked> = unsafe { &*ptr::from_ref(&*pool) };
+    let lane = lasting.lane().expect("a shard");
     let second = lane
-        .create_with(|nested| nested.object.set(2))
+        .put_with(|linked| linked.object.set(2))
         .expect("a place");
-    let key = lane.create_with(|nested| {
-        nested.object.set(1);
-        nested.inner = pool.get_owned(second);
-        nested.panics = panics;
+    let first = lane.put_with(|linked| {
+        linked.object.set(1);
+        linked.next = (!is_owned).then_some((lasting, second));
+        linked.inner = lasting.get_owned(second).filter(|_| is_owned);
+        linked.panics = panics;
     });
-    assert!(lane.clear(second));
+    if is_owned {
+        assert!(lane.clear(second));
+    }
     drop(lane);
-    let key = key.expect("a place");
-    Chain { pool, key }
+    let keys = [first.expect("a place"), second];
+    Links { pool, keys }
 }
 
-impl Chain {
-    fn clear(&self) {
-        let cleared = panic::catch_unwind(AssertUnwindSafe(|| self.pool.clear(self.key)));
-        assert_ne!(cleared.ok(), Some(false));
+/// Does something that may panic.
+fn caught(with: impl FnOnce()) {
+    drop(panic::catch_unwind(AssertUnwindSafe(with)));
+}
+
+impl Links {
+    fn clear(&self, number: usize) {
+        caught(|| _ = self.pool.clear(self.keys[number]));
     }
 
-    fn hold(&self) {
-        let hold = || {
-            self.pool
-                .get(self.key)
-                .map(|nested| assert_eq!(nested.object.get(), 1))
-        };
-        drop(panic::catch_unwind(AssertUnwindSafe(hold)));
+    /// Behind a clear within which others waited, an object is emptied by its own.
+    fn clear_twice(&self) {
+        self.clear(0);
+        let made = self.pool.put_with(|linked| linked.object.set(3));
+        assert!(self.pool.clear(made.expect("a place")));
     }
 
-    fn hold_owned(&self) {
-        let hold = || {
-            self.pool
-                .get_owned(self.key)
-                .map(|nested| assert_eq!(nested.object.get(), 1))
-        };
-        drop(panic::catch_unwind(AssertUnwindSafe(hold)));
+    fn clear_first(&self) {
+        self.clear(0);
+    }
+
+    fn hold_and_clear_first(&self) {
+        self.hold_and_clear(0);
+    }
+
+    fn hold(&self, number: usize) {
+        caught(|| {
+            if let Some(linked) = self.pool.get(self.keys[number]) {
+                assert_eq!(linked.object.get(), number as u64 + 1);
+            }
+        });
+    }
+
+    fn hold_owned(&self, number: usize) {
+        caught(|| {
+            if let Some(linked) = self.pool.get_owned(self.keys[number]) {
+                assert_eq!(linked.object.get(), number as u64 + 1);
+            }
+        });
+    }
+
+    fn hold_and_clear(&self, number: usize) {
+        caught(|| {
+            if let Some(linked) = self.pool.get(self.keys[number]) {
+                self.pool.clear(self.keys[number]);
+                assert_eq!(linked.object.get(), number as u64 + 1);
+            }
+        });
     }
 
     /// Lets go while the thread unwinds: a panic of the clear is swallowed then.
     fn unwind(&self) {
-        let unwind = || {
-            let held = self.pool.get(self.key);
-            self.pool.clear(self.key);
+        caught(|| {
+            let held = self.pool.get(self.keys[0]);
+            self.pool.clear(self.keys[0]);
             assert!(held.is_none(), "unwinds");
-        };
-        drop(panic::catch_unwind(AssertUnwindSafe(unwind)));
-    }
-}
-
-/// Two lanes in hand. The other one clears an object of the first: that panics, and the object is dropped.
-struct Lost {
-    lanes: [Mutex<Option<Lane<'static, Nested>>>; 2],
-    pool: Arc<Pool<Nested>>,
-    key: Key,
-}
-
-fn lost() -> Lost {
-    let pool = Arc::new(Pool::<Nested>::open(shape(2, 4, 1)).expect("memory"));
-    let lanes = [(); 2].map(|()| pool.lane_owned().expect("nobody has it"));
-    let put = |panics| lanes[0].create_with(|nested| nested.panics = panics);
-    let [key, _] = [true, false].map(|panics| put(panics).expect("a place"));
-    Lost {
-        lanes: lanes.map(|lane| Mutex::new(Some(lane))),
-        pool,
-        key,
-    }
-}
-
-impl Lost {
-    fn lane(&self, number: usize) -> Lane<'static, Nested> {
-        let lane = self.lanes[number].lock().expect("no panic").take();
-        lane.expect("one thread has it")
+        });
     }
 
-    fn lose(&self) {
-        let lane = self.lane(1);
-        let lose = || lane.clear(self.key);
-        assert!(panic::catch_unwind(AssertUnwindSafe(lose)).is_err());
-    }
-
+    /// Fills the places that it finds free: with no object that is being emptied.
     fn make(&self) {
-        let put = self.lane(0).create_with(|nested| nested.object.set(3));
-        assert!(put.is_ok());
+        for number in 3..5 {
+            let filled = self.pool.put_with(|linked| {
+                assert!(linked.object.get() == 0 && linked.next.is_none());
+                linked.object.set(number);
+            });
+            if let Ok(key) = filled {
+                assert_eq!(self.pool.get(key).expect("published").object.get(), number);
+            }
+        }
     }
 
-    fn finish(self) {
-        let pool = Arc::into_inner(self.pool).expect("ours");
-        assert_eq!(pool.close().present, 2);
+    /// Both places are free, and may be filled.
+    fn end(self) -> Census {
+        let census = self.pool.close();
+        assert_eq!((census.marked, census.filling), (0, 0));
+        census
     }
 }
 
-fn both_emptied(chain: Chain) {
+fn all_emptied(links: Links) {
     assert_eq!(emptied(), 2, "each is emptied once");
-    all_free(chain);
+    assert_eq!(links.end().free, 2);
 }
 
 /// The clear of the first one panicked, which is lost.
-fn second_emptied(chain: Chain) {
-    assert_eq!(emptied(), 1, "the other one is emptied once");
-    all_free(chain);
+fn second_emptied(links: Links) {
+    assert_eq!(
+        (emptied(), alive()),
+        (1, 1),
+        "the other one is emptied once"
+    );
+    assert_eq!(links.end().free, 2);
 }
 
-fn all_free(chain: Chain) {
-    let census = chain.pool.close();
-    assert_eq!((census.present, census.marked, census.filling), (0, 0, 0));
+fn made_beside(links: Links) {
+    assert!(emptied() >= 1);
+    let census = links.end();
+    assert_eq!(census.present + census.free, 2);
+}
+
+/// A pool of two places, whose first objects are made by a function that panics, when it has made another one.
+struct Unmade(Pool<Tracked>);
+
+fn unmade() -> Unmade {
+    Unmade(Pool::open(shape(2, 2, 1)).expect("a shape"))
+}
+
+impl Unmade {
+    /// An object that can't be made, when another one was.
+    fn fail(&self) {
+        caught(|| {
+            let fail = || {
+                let inner = self.0.put_with(|object| object.set(1)).expect("a place");
+                assert!(self.0.clear(inner));
+                panic!("an object that can't be made");
+            };
+            drop(self.0.create_with(fail));
+        });
+    }
+
+    /// However often it panics, no place is lost, nor the object that was made meanwhile.
+    fn make(&self) {
+        for _ in 0..3 {
+            self.fail();
+        }
+        let both = [2, 3].map(|number| self.0.put_with(|object| object.set(number)));
+        assert!(both.iter().all(Result::is_ok), "a place is lost");
+    }
 }
 
 /// An object that holds one of another pool, and of another type.
@@ -222,128 +306,74 @@ struct TwoPools {
 }
 
 fn two_pools() -> TwoPools {
-    let outer = Pool::<Outer>::open(shape(1, 2, 1)).expect("memory");
-    let inner = Pool::<Tracked>::open(shape(1, 2, 1)).expect("memory");
-    let lane = inner.lane().expect("nobody has it");
-    let key = lane.create_with(|object| object.set(1)).expect("a place");
-    let held = inner.get_owned(key);
-    assert!(lane.clear(key));
-    drop(lane);
-    let lane = outer.lane().expect("nobody has it");
-    let key = lane.create_with(|object| {
-        object.number = 2;
-        object.inner = held;
-    });
-    drop(lane);
+    let outer = Pool::<Outer>::open(shape(1, 2, 1)).expect("a shape");
+    let inner = Pool::<Tracked>::open(shape(1, 2, 1)).expect("a shape");
+    let held = {
+        let lane = inner.lane().expect("a shard");
+        let key = lane.put_with(|object| object.set(1)).expect("a place");
+        let held = inner.get_owned(key);
+        assert!(lane.clear(key));
+        held
+    };
+    let key = {
+        let lane = outer.lane().expect("a shard");
+        lane.put_with(|object| (object.number, object.inner) = (2, held))
+            .expect("a place")
+    };
     TwoPools {
-        key: key.expect("a place"),
         outer,
+        key,
         _inner: inner,
     }
 }
 
-impl Outer {
-    fn clear_first(pools: &TwoPools) {
-        pools.outer.clear(pools.key);
+impl TwoPools {
+    fn clear(&self) {
+        self.outer.clear(self.key);
     }
 }
 
-/// An object that clears another one when it is cleared.
-#[derive(Default)]
-struct Linked {
-    object: Tracked,
-    next: Option<(&'static Pool<Linked>, Key)>,
+fn inner_emptied(pools: TwoPools) {
+    assert_eq!(emptied(), 1, "the inner object is emptied once");
+    drop(pools);
 }
 
-impl Clear for Linked {
-    fn clear(&mut self) {
-        if let Some((pool, key)) = self.next.take() {
-            pool.clear(key);
-        }
-        self.object.clear();
-    }
+/// A pool of vectors, whose clear runs no code of others.
+struct Plain {
+    pool: Pool<Vec<u64>>,
+    key: Key,
 }
 
-/// Two objects, of which the first one clears the second.
-struct Links {
-    pool: Box<Pool<Linked>>,
-    keys: [Key; 2],
+fn plain() -> Plain {
+    let pool = Pool::<Vec<u64>>::open(shape(1, 1, 1)).expect("a shape");
+    let lane = pool.lane().expect("a shard");
+    let key = lane.put_with(|row| row.push(5)).expect("a place");
+    drop(lane);
+    Plain { pool, key }
 }
 
-fn links() -> Links {
-    links_of(1, 4).0
-}
-
-/// Those, by a lane of a pool of so many lanes, with so many places each.
-fn links_of(lanes: u32, places: u32) -> (Links, Lane<'static, Linked>) {
-    let pool = Box::new(Pool::<Linked>::open(shape(lanes, places, 1)).expect("memory"));
-    // SAFETY: the pool's objects clear nothing when it is closed, so none calls it then.
-    let lasting: &'static Pool<Linked> = unsafe { &*ptr::from_ref(&*pool) };
-    let lane = lasting.lane().expect("nobody has it");
-    let second = lane
-        .create_with(|linked| linked.object.set(2))
-        .expect("a place");
-    let first = lane.create_with(|linked| {
-        linked.object.set(1);
-        linked.next = Some((lasting, second));
-    });
-    let keys = [first.expect("a place"), second];
-    (Links { pool, keys }, lane)
-}
-
-impl Links {
-    fn clear(&self, number: usize) {
-        self.pool.clear(self.keys[number]);
-    }
-
-    fn hold_and_clear(&self, number: usize) {
-        if let Some(linked) = self.pool.get(self.keys[number]) {
-            assert_eq!(linked.object.get(), number as u64 + 1);
-            self.clear(number);
-            assert_eq!(linked.object.get(), number as u64 + 1);
-        }
-    }
-}
-
-fn links_emptied(links: Links) {
-    assert_eq!(emptied(), 2, "each is emptied once");
-    let census = links.pool.close();
-    assert_eq!((census.present, census.marked, census.filling), (0, 0, 0));
-}
-
-/// Two objects, of which the first one clears the second, in the only places of a lane in hand.
-struct Made {
-    lane: Mutex<Option<Lane<'static, Linked>>>,
-    links: Links,
-}
-
-fn made() -> Made {
-    let (links, lane) = links_of(2, 2);
-    let lane = Mutex::new(Some(lane));
-    Made { lane, links }
-}
-
-impl Made {
-    /// Fills the places that it finds free: with no object that is being emptied, by a thread with the other lane.
-    fn make_two(&self) {
-        let lane = self.lane.lock().expect("no panic").take();
-        let lane = lane.expect("one thread has it");
-        for number in 3..5 {
-            let filled = lane.create_with(|linked| {
-                assert!(linked.object.get() == 0 && linked.next.is_none());
-                linked.object.set(number);
-            });
-            if let Ok(key) = filled {
-                assert_eq!(lane.get(key).expect("published").object.get(), number);
-            }
+impl Plain {
+    fn get(&self) {
+        if let Some(row) = self.pool.get(self.key) {
+            assert_eq!(*row, [5]);
         }
     }
 
-    fn finish(self) {
-        let Made { lane, links } = self;
-        drop(lane);
-        assert_eq!(emptied(), 2, "each is emptied once");
-        let census = links.pool.close();
-        assert_eq!((census.marked, census.filling), (0, 0));
+    fn clear(&self) {
+        assert!(self.pool.clear(self.key));
+    }
+
+    /// Publishes a vector, which was empty.
+    fn make(&self) {
+        if let Ok(mut filling) = self.pool.create() {
+            assert!(filling.is_empty(), "an object isn't empty");
+            filling.push(6);
+            drop(filling);
+        }
+    }
+
+    fn settle(self) {
+        let census = self.pool.close();
+        assert_eq!((census.free, census.total()), (1, 1));
     }
 }

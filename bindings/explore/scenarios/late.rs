@@ -1,197 +1,199 @@
 //! What a thread leaves to its end: in a thread-local that was there before it called a pool, and so ends behind the crate's own; or in one
 //! that ends before.
 use crate::world::{
-    emptied, lanes_at_home, look, look_by_call, number_of, shape, Scenario, Tracked, World,
+    key_of, look, number_of, published, release, settled, shape, Scenario, Tracked, World,
 };
-use pardz::{Key, Pool, PoolFilling, PoolRef};
+use pardz::{Filling, OwnedFilling, OwnedRef, Pool, Ref};
 use std::cell::RefCell;
 
 pub fn all() -> Vec<Scenario> {
-    let one_lane = || lanes_at_home(shape(1, 2, 1), 1);
-    vec![
+    let one = || published(shape(1, 2, 1), 1);
+    let mut all = vec![
+        Scenario::new("late-call", one, [call_late, make_and_clear], settled).bounded(3),
+        Scenario::new("late-calls", one, [call_late, call_late], settled).bounded(3),
         Scenario::new(
-            "late-filling",
-            one_lane,
-            [leave_filling, take_twice],
-            settled,
-        )
-        .bounded(2),
-        Scenario::new(
-            "late-reference",
-            one_lane,
-            [leave_reference, take_twice_and_clear],
-            at_most_one,
-        )
-        .bounded(2),
-        Scenario::new(
-            "late-filling-calls",
-            one_lane,
-            [leave_filling, make_twice],
-            settled,
-        )
-        .bounded(2),
-        Scenario::new("late-call", one_lane, [call_late, take_twice], settled),
-        Scenario::new("late-calls", one_lane, [call_late, call_late], settled).bounded(2),
-        Scenario::new(
-            "early-filling",
-            one_lane,
-            [leave_filling_early, take_twice],
+            "late-clear",
+            one,
+            [|w| leave_call(w, clear), make_and_clear],
             settled,
         ),
         Scenario::new(
-            "early-reference",
-            one_lane,
-            [leave_reference_early, take_twice_and_clear],
-            at_most_one,
-        )
-        .bounded(3),
-        Scenario::new("early-call", one_lane, [call_early, take_twice], settled),
-        Scenario::new(
-            "late-publish",
-            one_lane,
-            [publish_late, take_twice],
+            "late-filling",
+            one,
+            [leave_filling, make_and_clear],
             settled,
         )
-        .bounded(2),
+        .bounded(3),
         Scenario::new(
-            "late-clear",
-            one_lane,
-            [clear_late, make_twice],
-            cleared_once,
+            "late-publish",
+            one,
+            [|w| publish_late(w), make_and_clear],
+            settled,
         )
-        .bounded(2),
-    ]
+        .bounded(3),
+        Scenario::new(
+            "late-reference",
+            one,
+            [leave_reference, clear_and_make],
+            settled,
+        ),
+        Scenario::new("late-owned", one, [leave_owned, clear_and_make], settled).bounded(3),
+    ];
+    all.extend([
+        Scenario::new("early-call", one, [call_early, make_and_clear], settled).bounded(3),
+        Scenario::new(
+            "early-filling",
+            one,
+            [leave_filling_early, make_and_clear],
+            settled,
+        )
+        .bounded(3),
+        Scenario::new(
+            "early-reference",
+            one,
+            [leave_reference_early, clear_and_make],
+            settled,
+        )
+        .bounded(3),
+        Scenario::new(
+            "late-other-owner",
+            || published(shape(1, 1, 1), 0),
+            [keep_and_clear_late, make_and_tell_again],
+            settled,
+        ),
+    ]);
+    all
 }
+
+/// What a thread owns of a pool, to be dropped.
+type Owned = (OwnedRef<Tracked>, Option<OwnedFilling<Tracked>>);
 
 thread_local! {
-    static FILLING: RefCell<Option<PoolFilling<'static, Tracked>>> = const { RefCell::new(None) };
-    static REFERENCE: RefCell<Option<PoolRef<'static, Tracked>>> = const { RefCell::new(None) };
-    static CALLER: RefCell<Option<Caller>> = const { RefCell::new(None) };
+    static FILLING: RefCell<Option<Filling<'static, Tracked>>> = const { RefCell::new(None) };
+    static REFERENCE: RefCell<Option<Ref<'static, Tracked>>> = const { RefCell::new(None) };
+    static OWNED: RefCell<Option<Owned>> = const { RefCell::new(None) };
     static PUBLISHER: RefCell<Option<Publisher>> = const { RefCell::new(None) };
+    static CALLER: RefCell<Option<Caller>> = const { RefCell::new(None) };
 }
 
-/// Publishes a filling when it is dropped.
-struct Publisher(Option<PoolFilling<'static, Tracked>>);
-
-impl Drop for Publisher {
-    fn drop(&mut self) {
-        let filling = self.0.take().expect("it is dropped once");
-        filling.publish();
-    }
-}
-
-/// Does something with a pool when it is dropped.
+/// Does something when it is dropped.
 struct Caller {
-    pool: &'static Pool<Tracked>,
-    key: Key,
-    call: fn(&'static Pool<Tracked>, Key),
+    world: &'static World,
+    call: fn(&'static World),
 }
 
 impl Drop for Caller {
     fn drop(&mut self) {
-        (self.call)(self.pool, self.key);
+        (self.call)(self.world);
     }
 }
 
-fn leave_call(world: &World, call: fn(&'static Pool<Tracked>, Key)) {
-    let (pool, key) = (world.lasting_pool(), world.keys[0]);
-    CALLER.with_borrow_mut(|caller| *caller = Some(Caller { pool, key, call }));
+fn leave_call(world: &World, call: fn(&'static World)) {
+    let world = world.lasting();
+    CALLER.with_borrow_mut(|caller| *caller = Some(Caller { world, call }));
 }
 
-fn get_100(pool: &'static Pool<Tracked>, key: Key) {
-    look_by_call(pool, key, number_of(0));
+/// All that a thread may do that has no list of shards any more.
+fn call_all(world: &'static World) {
+    world.look_at(0);
+    if let Ok(key) = world.make(3) {
+        assert!(world.look(key, 3) && world.clear(key));
+    }
+    if let Ok(filling) = world.create(4) {
+        drop(filling);
+    }
 }
 
-fn get(world: &World) {
-    look_by_call(&world.pool, world.keys[0], number_of(0));
+fn clear(world: &'static World) {
+    world.clear_at(0);
 }
 
+fn make_and_clear(world: &World) {
+    if let Ok(key) = world.make(5) {
+        assert!(world.look(key, 5) && world.clear(key));
+        let _ = world.make(6).expect("a place that this thread gave back");
+    }
+}
+
+fn clear_and_make(world: &World) {
+    world.clear_at(0);
+    let _ = world.make(5);
+}
+
+fn pool(world: &World) -> &'static Pool<Tracked> {
+    &world.lasting().pool
+}
+
+/// The thread has the thread-local before it has a shard.
 fn leave_filling(world: &World) {
-    FILLING.with_borrow_mut(|late| {
-        let mut filling = world.lasting_pool().create().expect("a place");
-        filling.set(8);
-        *late = Some(filling);
-    });
+    FILLING.with_borrow_mut(|late| *late = pool(world).create().ok());
 }
 
 fn leave_filling_early(world: &World) {
-    get(world);
+    let _ = world.make(8);
     leave_filling(world);
 }
 
-pub fn leave_reference(world: &World) {
-    leave_reference_to(world, world.keys[0]);
+/// Publishes a filling when it is dropped.
+struct Publisher(&'static World, Option<Filling<'static, Tracked>>);
+
+impl Drop for Publisher {
+    fn drop(&mut self) {
+        if let Some(filling) = self.1.take() {
+            let _ = self.0.publish(filling);
+        }
+    }
 }
 
-pub fn leave_reference_to(world: &World, key: Key) {
-    REFERENCE.with_borrow_mut(|late| *late = world.lasting_pool().get(key));
-}
-
-fn leave_reference_early(world: &World) {
-    get(world);
-    leave_reference(world);
-}
-
-/// Calls when the thread has left its lane.
-fn call_late(world: &World) {
-    leave_call(world, get_100);
-    get(world);
-}
-
-/// Calls when the thread is about to leave its lane.
-fn call_early(world: &World) {
-    get(world);
-    leave_call(world, get_100);
-}
-
-/// Publishes when the thread has left its lane: by a filling that it had before.
 fn publish_late(world: &World) {
     PUBLISHER.with_borrow_mut(|late| {
-        let filling = world.lasting_pool().create().expect("a place");
-        world.note(filling.key());
-        *late = Some(Publisher(Some(filling)));
+        *late = Some(Publisher(world.lasting(), pool(world).create().ok()))
     });
 }
 
-fn clear_late(world: &World) {
-    let pool = world.lasting_pool();
-    leave_call(world, |pool, key| assert!(pool.clear(key)));
-    look_by_call(pool, world.keys[0], number_of(0));
-    world.count(true);
+fn leave_reference(world: &World) {
+    REFERENCE.with_borrow_mut(|late| *late = pool(world).get(world.keys[0]));
 }
 
-pub fn take_twice(world: &World) {
-    for _ in 0..2 {
-        if let Some(lane) = world.pool.lane() {
-            look(&lane, world.keys[0], number_of(0));
-            world.make(&lane, 4);
+fn leave_reference_early(world: &World) {
+    let _ = world.make(8);
+    leave_reference(world);
+}
+
+fn leave_owned(world: &World) {
+    OWNED.with_borrow_mut(|late| {
+        if let Some(object) = pool(world).get_owned(world.keys[0]) {
+            look(&object, number_of(0));
+            *late = Some((object, pool(world).create_owned().ok()));
         }
-    }
+    });
 }
 
-fn take_twice_and_clear(world: &World) {
-    for _ in 0..2 {
-        if let Some(lane) = world.pool.lane() {
-            look(&lane, world.keys[0], number_of(0));
-            world.make(&lane, 4);
-            world.count(lane.clear(world.keys[0]));
+/// The thread has had a shard when it calls for the last time.
+fn call_late(world: &World) {
+    leave_call(world, call_all);
+    let _ = world.make(8);
+}
+
+fn call_early(world: &World) {
+    let _ = world.make(8);
+    leave_call(world, call_all);
+}
+
+/// A thread has had the shard, and another one may have it now, when its late call gives a place of it back.
+fn keep_and_clear_late(world: &World) {
+    leave_call(world, |world| {
+        let object = world.get(key_of(1, 0));
+        if let Some(object) = &object {
+            look(object, 7);
+            world.clear(key_of(1, 0));
         }
-    }
+        release(object);
+    });
+    let _ = world.make(7);
 }
 
-fn make_twice(world: &World) {
-    world.make_by_call(4);
-    world.make_by_call(5);
-}
-
-fn settled(world: World) {
-    world.settle();
-}
-
-fn at_most_one(world: World) {
-    assert!(world.settle() <= 1);
-}
-
-fn cleared_once(world: World) {
-    assert_eq!((world.settle(), emptied()), (1, 1));
+fn make_and_tell_again(world: &World) {
+    let _ = world.make(7);
+    let _ = world.make(8);
 }

@@ -10,26 +10,18 @@ use std::process::ExitCode;
 use std::time::Duration;
 
 mod c_library;
-mod calls;
-mod changing;
 mod checks;
 mod clears;
-mod growing;
-mod lanes;
 mod late;
-mod lent;
-mod lock;
-mod misses;
 mod owned;
 mod pools;
+mod refused;
+mod returns;
 mod seats;
-mod wider;
+mod shards;
+mod steps;
+mod words;
 mod world;
-
-/// What the crate's own lock is made of.
-mod sync {
-    pub(crate) use explorer::{sleep, spin_loop, yield_now, AtomicU32, Ordering};
-}
 
 use world::{Scenario, Within};
 
@@ -43,18 +35,14 @@ const LITTLE_PATIENCE: Duration = Duration::from_secs(3);
 
 fn all() -> Vec<Scenario> {
     let all = [
-        lanes::all(),
-        calls::all(),
+        returns::all(),
+        words::all(),
+        shards::all(),
         late::all(),
-        lent::all(),
         owned::all(),
-        growing::all(),
-        changing::all(),
-        wider::all(),
         pools::all(),
         clears::all(),
-        lock::all(),
-        misses::all(),
+        refused::all(),
         seats::all(),
     ];
     all.into_iter().flatten().collect()
@@ -136,6 +124,10 @@ fn run(scenarios: &[Scenario], within: Within) -> ExitCode {
         schedules += report.schedules;
         steps += report.steps;
         seconds += report.seconds;
+    }
+    if let Err(more) = steps::tell() {
+        println!("FAIL the steps of calls: {more}");
+        return ExitCode::FAILURE;
     }
     println!(
         "{} scenarios, {schedules} schedules, {steps} steps, {seconds:.0} s",

@@ -1,162 +1,131 @@
-//! Two pools, of which a thread has a lane each.
-use crate::world::{look_by_call, shape, Scenario, Tracked};
-use explorer::{AtomicUsize, Ordering};
+//! Pools that end while threads have shards of them, and several pools.
+use crate::world::{look, published, settled, shape, Scenario, Tracked, World};
+use explorer::{AtomicU32, Mutex, Ordering};
 use pardz::{Key, Pool};
-use std::cell::RefCell;
-use std::sync::{Arc, Mutex};
 
 pub fn all() -> Vec<Scenario> {
     vec![
-        Scenario::new("two-pools", || two(1, 2), [call_both, call_other], all_home),
+        Scenario::new("ends-while-had", ended, [Ended::make, Ended::end], drop),
         Scenario::new(
-            "two-pools-in-turn",
-            || two(1, 1),
-            [in_turn, in_turn],
-            all_home,
+            "ends-while-two-have",
+            ended,
+            [Ended::make, Ended::make, Ended::end_second],
+            drop,
         )
-        .bounded(2),
+        .bounded(1),
         Scenario::new(
-            "two-pools-owned",
-            || two(1, 3),
-            [own_both, call_other],
-            all_home,
-        )
-        .bounded(2),
-        Scenario::new(
-            "two-pools-late",
-            || two(1, 2),
-            [call_late, call_other],
+            "ends-while-held",
+            ended,
+            [Ended::hold, Ended::hold, Ended::end_second],
             drop,
         )
         .bounded(2),
         Scenario::new(
-            "pool-ends-first",
-            || two(1, 1),
-            [end_and_go_on, go_on_and_end],
-            drop,
+            "two-pools",
+            two_pools,
+            [|t| t.make(0), |t| t.make(1)],
+            TwoPools::settle,
         )
-        .bounded(2),
+        .bounded(3),
+        Scenario::new(
+            "next-pool",
+            ended,
+            [Ended::make_then_in_next, Ended::end],
+            drop,
+        ),
     ]
 }
 
-/// Two pools, with an object in each.
-struct Two {
-    pools: [Mutex<Option<Arc<Pool<Tracked>>>>; 2],
-    keys: [Key; 2],
-    /// How many threads haven't given the first pool up.
-    users: AtomicUsize,
+/// A pool that one thread ends, when others have called it.
+struct Ended {
+    pool: Mutex<Option<Pool<Tracked>>>,
+    /// How many threads are done with the pool.
+    done: AtomicU32,
 }
 
-const NUMBERS: [u64; 2] = [5, 6];
-
-fn two(one: u32, other: u32) -> Two {
-    let open = |lanes| Arc::new(Pool::<Tracked>::open(shape(lanes, 2, 1)).expect("memory"));
-    let pools = [open(one), open(other)];
-    let publish = |index: usize| {
-        let lane = pools[index].lane().expect("nobody has it");
-        let key = lane.create_with(|object| object.set(NUMBERS[index]));
-        key.expect("a place")
-    };
-    Two {
-        keys: [publish(0), publish(1)],
-        pools: pools.map(|pool| Mutex::new(Some(pool))),
-        users: AtomicUsize::new(2),
+fn ended() -> Ended {
+    let pool = Pool::open(shape(2, 2, 1)).expect("a shape");
+    Ended {
+        pool: Mutex::new(Some(pool)),
+        done: AtomicU32::new(0),
     }
 }
 
-impl Two {
-    fn pool(&self, index: usize) -> Arc<Pool<Tracked>> {
-        let pool = self.pools[index].lock().expect("no panic");
-        Arc::clone(pool.as_ref().expect("it is there"))
+impl Ended {
+    /// The pool, for as long as the thread isn't done.
+    fn borrowed(&self) -> &Pool<Tracked> {
+        let pool = self.pool.lock().expect("no panic");
+        let pool: *const Pool<Tracked> = pool.as_ref().expect("it isn't ended yet");
+        // SAFETY: whoever ends it waits for those that call it.
+        unsafe { &*pool }
     }
 
-    fn get(&self, index: usize) {
-        look_by_call(&self.pool(index), self.keys[index], NUMBERS[index]);
+    /// Has a shard, until the thread exits: before or after the pool ends.
+    fn make(&self) {
+        let pool = self.borrowed();
+        let key = pool.put_with(|object| object.set(3)).expect("a place");
+        look(&pool.get(key).expect("published"), 3);
+        self.done.fetch_add(1, Ordering::Release);
     }
 
-    /// The thread gives the first pool up, which ends with the last.
-    fn give_up(&self) {
-        if self.users.fetch_sub(1, Ordering::AcqRel) == 1 {
-            let pool = self.pools[0].lock().expect("no panic").take();
-            drop(pool);
+    /// Has an owned handle, of a stripe of its own, which ends before the pool or behind it.
+    fn hold(&self) {
+        let pool = self.borrowed();
+        let object = pool.create_owned().map(|mut filling| {
+            filling.set(5);
+            filling.downgrade()
+        });
+        self.done.fetch_add(1, Ordering::Release);
+        look(&object.expect("a place"), 5);
+    }
+
+    fn end(&self) {
+        self.end_behind(1);
+    }
+
+    fn end_second(&self) {
+        self.end_behind(2);
+    }
+
+    fn end_behind(&self, count: u32) {
+        while self.done.load(Ordering::Acquire) < count {
+            explorer::spin_loop();
+        }
+        let pool = self.pool.lock().expect("no panic").take();
+        drop(pool);
+    }
+
+    /// Its shard of a pool that may be gone isn't one of the next.
+    fn make_then_in_next(&self) {
+        self.make();
+        let next = Pool::<Tracked>::open(shape(1, 1, 1)).expect("a shape");
+        let key = next.put_with(|object| object.set(4)).expect("a place");
+        look(&next.get(key).expect("published"), 4);
+        assert!(next.clear(key));
+    }
+}
+
+/// Two pools of the same shape.
+struct TwoPools([World; 2]);
+
+fn two_pools() -> TwoPools {
+    TwoPools([(); 2].map(|()| published(shape(1, 1, 1), 1)))
+}
+
+impl TwoPools {
+    /// Clears an object of each, and uses its place again.
+    fn make(&self, first: usize) {
+        for at in [first, 1 - first] {
+            let world = &self.0[at];
+            world.clear_at(0);
+            let made: Option<Key> = world.make(7).ok();
+            if let Some(key) = made {
+                assert!(world.look(key, 7), "a key of this pool");
+            }
         }
     }
-}
 
-/// Has a lane of the one pool, then of the other one.
-fn call_both(world: &Two) {
-    world.get(0);
-    world.get(1);
-}
-
-/// Has a lane of the other pool, and fills objects there.
-fn call_other(world: &Two) {
-    let pool = world.pool(1);
-    for _ in 0..2 {
-        let key = pool.create_with(|object| object.set(8)).expect("a place");
-        assert!(pool.clear(key));
+    fn settle(self) {
+        self.0.into_iter().for_each(settled);
     }
-}
-
-/// By the shared lane of the larger pool, then by that of the smaller one: several times each, as each is remembered.
-fn own_both(world: &Two) {
-    for index in [1, 0, 1] {
-        let pool = world.pool(index);
-        let object = pool.get_owned(world.keys[index]).expect("published");
-        assert_eq!(object.get(), NUMBERS[index]);
-        for _ in 0..2 {
-            let filling = pool.create_owned();
-            drop(filling.ok());
-        }
-    }
-}
-
-/// All lanes are at home when the threads have ended.
-fn all_home(world: Two) {
-    for index in [0, 1] {
-        let pool = world.pool(index);
-        let lanes: Vec<_> = (0..).map_while(|_| pool.lane()).collect();
-        assert_eq!(lanes.len() as u32, pool.shape().lanes, "lanes at home");
-    }
-}
-
-fn in_turn(world: &Two) {
-    for index in [0, 1, 0] {
-        world.get(index);
-    }
-}
-
-/// Calls both pools when it is dropped.
-struct Both([Arc<Pool<Tracked>>; 2], [Key; 2]);
-
-impl Drop for Both {
-    fn drop(&mut self) {
-        for index in [1, 0] {
-            look_by_call(&self.0[index], self.1[index], NUMBERS[index]);
-        }
-    }
-}
-
-thread_local! {
-    static BOTH: RefCell<Option<Both>> = const { RefCell::new(None) };
-}
-
-/// Calls both when the thread has left its lanes.
-fn call_late(world: &Two) {
-    let pools = [world.pool(0), world.pool(1)];
-    BOTH.with_borrow_mut(|both| *both = Some(Both(pools, world.keys)));
-    call_both(world);
-}
-
-/// Gives the first pool up, and goes on with the other one.
-fn end_and_go_on(world: &Two) {
-    world.get(0);
-    world.give_up();
-    world.get(1);
-}
-
-fn go_on_and_end(world: &Two) {
-    world.get(1);
-    world.get(0);
-    world.give_up();
 }

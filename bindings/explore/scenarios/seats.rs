@@ -1,5 +1,8 @@
-//! The C library's seats, of which one call at a time has each, and its owned references.
-use crate::c_library::{look, wait, Answer, CPool, Lent, OwnedSlot, BUSY, GONE, NO_REFERENCE};
+//! The C library's seats, of which one call at a time has each, its owned references, and its calls by any thread.
+use crate::c_library::{
+    look, wait, Answer, CFilling, CPool, CRef, Lent, OwnedSlot, BUSY, GONE, NO_FILLING,
+    NO_REFERENCE,
+};
 use crate::world::Scenario;
 use explorer::{AtomicU32, Ordering};
 use std::cell::UnsafeCell;
@@ -8,11 +11,17 @@ use std::ptr;
 /// A pool, and what threads have of it.
 struct Seats {
     pool: CPool,
+    /// How many places it has.
+    places: u32,
     /// Another slot of it, of the first thread.
     other: CPool,
     keys: Vec<u64>,
     lents: Vec<Lent>,
     owned: Vec<OwnedSlot>,
+    /// Two references to the first key.
+    refs: Vec<CRef>,
+    /// What a thread hands on, and whether it has.
+    filling: (UnsafeCell<CFilling>, AtomicU32),
     /// Slots that one thread fills, and then says so.
     handed: [(UnsafeCell<Option<OwnedSlot>>, AtomicU32); 2],
     /// How many clears said yes, and how many threads are done.
@@ -37,6 +46,7 @@ impl Seats {
         let keys = TEXTS[..keys].iter().map(|text| world.pool.put(0, text));
         Seats {
             keys: keys.map(|key| key.expect("a place")).collect(),
+            places: lanes * places,
             ..world
         }
     }
@@ -45,10 +55,13 @@ impl Seats {
     fn unattached() -> Seats {
         Seats {
             pool: CPool::empty(),
+            places: 0,
             other: CPool::empty(),
             keys: Vec::new(),
             lents: Vec::new(),
             owned: Vec::new(),
+            refs: Vec::new(),
+            filling: (UnsafeCell::new(CFilling::default()), AtomicU32::new(0)),
             handed: [(); 2].map(|()| (UnsafeCell::new(None), AtomicU32::new(0))),
             cleared: AtomicU32::new(0),
             done: AtomicU32::new(0),
@@ -73,6 +86,13 @@ impl Seats {
         let owned = self.keys.iter().map(|key| self.pool.own(0, *key));
         self.owned = owned.map(|owned| owned.expect("a reference")).collect();
         self.cleared_if(clear)
+    }
+
+    /// The same, with two references to the first key, of no lane.
+    fn referred(mut self) -> Seats {
+        let found = (0..2).map(|_| self.pool.any_get(self.keys[0]));
+        self.refs = found.map(|found| found.expect("it is published")).collect();
+        self
     }
 
     /// The same, with what a release by mistake would tell of the first owned reference.
@@ -179,20 +199,13 @@ pub fn all() -> Vec<Scenario> {
             world.settle(1)
         }),
         Scenario::new("own-hand-on", one_lane, [own_and_hand_on, take_over], free),
-        Scenario::new("own-told", one_owned, [disown, cycle], free).bounded(3),
+        Scenario::new("own-in-a-cycle", one_owned, [disown, cycle], free).bounded(3),
         Scenario::new(
-            "own-told-both",
+            "own-both-counted",
             || Seats::of(1, 2, 2).owned(true),
             [disown, disown_second, census],
             free,
         ),
-        Scenario::new(
-            "own-told-two",
-            || Seats::of(1, 4, 2).owned(true),
-            [disown, disown_second, put_and_clear],
-            free,
-        )
-        .bounded(3),
         Scenario::new(
             "own-not-released",
             || Seats::of(1, 1, 1).owned(true).lent_of_owned(),
@@ -234,19 +247,152 @@ pub fn all() -> Vec<Scenario> {
             drop,
         ),
         Scenario::new(
-            "own-outlives-told",
-            Seats::unattached,
-            [attach_two_and_detach, take_over, take_over_second],
-            drop,
-        )
-        .bounded(2),
-        Scenario::new(
             "own-outlives-lanes",
             || Seats::of(2, 1, 1).owned(false),
             [own_clear_and_detach, disown],
             drop,
         ),
+        // By any thread.
+        Scenario::new("any-cycle", || Seats::of(1, 2, 0), [any_cycle; 2], free).bounded(2),
+        Scenario::new(
+            "any-and-lanes",
+            || Seats::of(1, 2, 1),
+            [any_get, clear],
+            cleared_once,
+        )
+        .bounded(3),
+        Scenario::new(
+            "any-release",
+            || Seats::of(1, 1, 1).referred(),
+            [any_release, any_clone_and_release, any_clear],
+            cleared_once,
+        )
+        .bounded(3),
+        Scenario::new(
+            "any-own",
+            || Seats::of(1, 1, 1).referred(),
+            [any_own, any_clear],
+            cleared_once,
+        )
+        .bounded(3),
+        Scenario::new(
+            "any-filling",
+            || Seats::of(1, 2, 0),
+            [begin_and_hand_on, go_on],
+            free,
+        )
+        .bounded(3),
+        Scenario::new("any-grown", Seats::unattached, [grow_and_cycle; 2], drop).bounded(1),
     ]
+}
+
+/// A life of a key that is filled in place, by calls of any thread.
+fn any_cycle(world: &Seats) {
+    let pool = &world.pool;
+    let key = wait(0, |_| pool.any_put(LATER)).expect("a place");
+    let mut found = pool.any_get(key).expect("it is published");
+    found.look(LATER);
+    assert_eq!(pool.any_clear(key), Ok(()));
+    assert_eq!(
+        pool.any_get(key).err(),
+        Some(GONE),
+        "a cleared key is found"
+    );
+    found.look(LATER);
+    assert_eq!(pool.any_release(&mut found), Ok(()));
+    assert_eq!(pool.any_release(&mut found), Err(NO_REFERENCE));
+}
+
+fn any_get(world: &Seats) {
+    match world.pool.any_get(world.keys[0]) {
+        Ok(mut found) => {
+            found.look(TEXTS[0]);
+            assert_eq!(world.pool.any_release(&mut found), Ok(()));
+        }
+        Err(code) => assert_eq!(code, GONE),
+    }
+}
+
+fn any_release(world: &Seats) {
+    let mut found = world.refs[0];
+    found.look(TEXTS[0]);
+    assert_eq!(world.pool.any_release(&mut found), Ok(()));
+}
+
+/// One more reference of the second, which is there as long as that.
+fn any_clone_and_release(world: &Seats) {
+    let mut found = world.refs[1];
+    let mut more = world.pool.any_clone(&found).expect("few references");
+    assert_eq!(world.pool.any_release(&mut found), Ok(()));
+    more.look(TEXTS[0]);
+    assert_eq!(world.pool.any_release(&mut more), Ok(()));
+}
+
+fn any_clear(world: &Seats) {
+    world.count_clear(world.pool.any_clear(world.keys[0]));
+}
+
+/// An owned reference of a reference.
+fn any_own(world: &Seats) {
+    let (mut first, mut second) = (world.refs[0], world.refs[1]);
+    let owned = world.pool.any_own(&first).expect("few references");
+    assert_eq!(world.pool.any_release(&mut first), Ok(()));
+    assert_eq!(world.pool.any_release(&mut second), Ok(()));
+    owned.look(TEXTS[0]);
+    owned.disown();
+}
+
+/// Fills half, and hands the filling on.
+fn begin_and_hand_on(world: &Seats) {
+    let mut filling = wait(0, |_| world.pool.any_create()).expect("a place");
+    assert_eq!(world.pool.any_append(&mut filling, "la"), Ok(()));
+    let (to, is_there) = &world.filling;
+    // SAFETY: the other thread reads it when it is told so.
+    unsafe { *to.get() = filling };
+    is_there.store(1, Ordering::Release);
+    drop_one(world);
+}
+
+/// A filling that isn't published.
+fn drop_one(world: &Seats) {
+    let mut dropped = wait(0, |_| world.pool.any_create()).expect("a place");
+    assert_eq!(world.pool.any_append(&mut dropped, LATER), Ok(()));
+    assert_eq!(world.pool.any_drop(&mut dropped), Ok(()));
+    assert_eq!(world.pool.any_drop(&mut dropped), Err(NO_FILLING));
+}
+
+/// Fills the other half, publishes and clears.
+fn go_on(world: &Seats) {
+    let (from, is_there) = &world.filling;
+    while is_there.load(Ordering::Acquire) == 0 {
+        explorer::yield_now();
+    }
+    // SAFETY: the other thread has written it, and uses it no more.
+    let mut filling = unsafe { *from.get() };
+    assert_eq!(world.pool.any_append(&mut filling, "ter"), Ok(()));
+    let key = world.pool.any_publish(&mut filling).expect("a filling");
+    let mut found = world.pool.any_get(key).expect("it is published");
+    assert_eq!(world.pool.any_clear(key), Ok(()));
+    found.look(LATER);
+    assert_eq!(world.pool.any_release(&mut found), Ok(()));
+}
+
+/// The last of two threads closes a pool that grows, which the first one opens.
+fn grow_and_cycle(world: &Seats) {
+    let (_, is_open) = &world.handed[1];
+    if world.done.fetch_add(1, Ordering::AcqRel) == 0 {
+        world.pool.grow();
+        is_open.store(1, Ordering::Release);
+    }
+    while is_open.load(Ordering::Acquire) == 0 {
+        explorer::yield_now();
+    }
+    let key = world.pool.any_put(LATER).expect("a place");
+    assert_eq!(world.pool.any_clear(key), Ok(()));
+    if world.cleared.fetch_add(1, Ordering::AcqRel) == 1 {
+        let census = world.pool.detach().expect("nobody calls");
+        assert_eq!((census.present, census.filling, census.marked), (0, 0, 0));
+    }
 }
 
 fn cycle(world: &Seats) {
@@ -268,11 +414,6 @@ fn cycle_from(world: &Seats, from: u32) {
     assert_eq!(again.err(), Some(GONE), "a cleared key is found");
     look(lent.at, lent.len, LATER);
     assert_eq!(wait(0, |_| pool.release(&lent)), Ok(()));
-}
-
-fn put_and_clear(world: &Seats) {
-    let key = wait(0, |from| world.pool.put(from, LATER)).expect("a place");
-    assert_eq!(wait(0, |from| world.pool.clear(from, key)), Ok(()));
 }
 
 fn free(world: Seats) {
@@ -442,10 +583,6 @@ fn take_over(world: &Seats) {
     take_over_from(world, 0);
 }
 
-fn take_over_second(world: &Seats) {
-    take_over_from(world, 1);
-}
-
 fn take_over_from(world: &Seats, index: usize) {
     let (from, is_there) = &world.handed[index];
     while is_there.load(Ordering::Acquire) == 0 {
@@ -460,11 +597,6 @@ fn take_over_from(world: &Seats, index: usize) {
 /// A pool of one key from its attach to its detach, which the key's owned reference outlives.
 fn attach_and_detach(world: &Seats) {
     attach_and_own(world, 1);
-}
-
-/// The same of two keys.
-fn attach_two_and_detach(world: &Seats) {
-    attach_and_own(world, 2);
 }
 
 fn attach_and_own(world: &Seats, count: usize) {
@@ -498,16 +630,17 @@ fn again(world: &Seats) {
     other.disown();
 }
 
-/// Counts while others are in calls.
+/// Counts while others are in calls. (A place that is emptied just then counts as filling.)
 fn census(world: &Seats) {
     let census = world.pool.census();
-    assert_eq!((census.free + census.marked, census.present), (2, 0));
+    let others = census.free + census.marked + census.filling;
+    assert_eq!((others, census.present), (2, 0));
 }
 
 fn detach(world: &Seats) {
     let census = world.pool.detach().expect("nobody calls");
-    let places = census.free + census.marked + census.present;
-    assert!(places > 0 && census.filling == 0);
+    let unused = census.free + census.unopened + census.filling;
+    assert_eq!(unused + census.present + census.marked, world.places);
 }
 
 /// An owned reference that outlives its pool, beside another one of the same key.

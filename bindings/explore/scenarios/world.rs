@@ -1,34 +1,28 @@
-//! What scenarios share: an object whose accesses are looked at, and a pool with its lanes.
-use explorer::{reads, writes, Extent, Plan, Report, Work};
-use pardz::{Census, Clear, Growth, Key, Lane, Plain, Pool, Shape};
-use std::sync::atomic::{AtomicBool, AtomicUsize, Ordering::SeqCst};
-use std::sync::{Arc, Mutex};
-
-/// More owned handles than end on a thread of a scenario.
-const NEVER: u64 = 1000;
+//! What scenarios share: an object whose accesses are looked at, a pool with what its threads did, and what a scenario is.
+use explorer::{call, reads, spin_loop, writes, AtomicU64, Extent, Ordering, Plan, Report, Work};
+use pardz::{Census, Clear, CreateError, Filling, Key, OwnedRef, Pool, Ref, Shape};
+use std::collections::HashSet;
+use std::iter;
+use std::sync::atomic::{AtomicUsize, Ordering::SeqCst};
+use std::sync::Arc;
 
 /// How many objects there are.
 static ALIVE: AtomicUsize = AtomicUsize::new(0);
 /// How many were emptied since the schedule began.
 static EMPTIED: AtomicUsize = AtomicUsize::new(0);
-/// Whether the crate may empty them within its calls, as it does its own.
-static PLAIN: AtomicBool = AtomicBool::new(false);
 
 /// An object whose reads and writes the explorer looks at.
 #[derive(Debug)]
 pub struct Tracked {
     number: u64,
-    /// Not 0, as no plain object has zeros alone.
-    _mark: u64,
+    /// Not 0, as memory that nobody has filled is.
+    mark: u64,
 }
 
 impl Default for Tracked {
     fn default() -> Tracked {
         ALIVE.fetch_add(1, SeqCst);
-        Tracked {
-            number: 0,
-            _mark: 1,
-        }
+        Tracked { number: 0, mark: 1 }
     }
 }
 
@@ -40,6 +34,7 @@ impl Tracked {
 
     pub fn get(&self) -> u64 {
         reads(self, "an object");
+        assert_eq!(self.mark, 1, "what is read is no object");
         self.number
     }
 }
@@ -49,15 +44,12 @@ impl Clear for Tracked {
         self.set(0);
         EMPTIED.fetch_add(1, SeqCst);
     }
-
-    fn plain() -> Plain {
-        Plain::of(PLAIN.load(SeqCst))
-    }
 }
 
 impl Drop for Tracked {
     fn drop(&mut self) {
         writes(self, "an object that is dropped");
+        assert_eq!(self.mark, 1, "what is dropped is no object");
         ALIVE.fetch_sub(1, SeqCst);
     }
 }
@@ -86,8 +78,6 @@ pub struct Scenario {
     pub extent: Extent,
     /// Whether memory is left that is of no object, as a payload that the crate forgets.
     forgets: bool,
-    /// Whether objects are emptied within the calls.
-    plain: bool,
     run: Box<dyn Fn(Plan<'_>) -> Report>,
 }
 
@@ -102,13 +92,11 @@ impl Scenario {
     ) -> Scenario {
         let begin = move || {
             EMPTIED.store(0, SeqCst);
-            pardz::lends_after(NEVER);
             set_up()
         };
         let run = move |plan: Plan<'_>| {
             let end = |world| {
                 finish(world);
-                assert!(pardz::empties_none(), "an object is emptied still");
                 assert_eq!(ALIVE.swap(0, SeqCst), 0, "objects are left");
             };
             explorer::explore(plan, begin, &works, end)
@@ -117,7 +105,6 @@ impl Scenario {
             name,
             extent: Extent::All,
             forgets: false,
-            plain: false,
             run: Box::new(run),
         }
     }
@@ -136,16 +123,7 @@ impl Scenario {
         }
     }
 
-    /// The crate empties the objects within its calls.
-    pub fn plain(self) -> Scenario {
-        Scenario {
-            plain: true,
-            ..self
-        }
-    }
-
     pub fn explore(&self, within: Within) -> Report {
-        PLAIN.store(self.plain, SeqCst);
         let plan = Plan {
             name: self.name,
             extent: self.extent,
@@ -157,13 +135,15 @@ impl Scenario {
     }
 }
 
-/// A pool, its lanes in hand, and what the threads did.
+/// A pool, and what the threads did.
 pub struct World {
-    lanes: Vec<Mutex<Option<Lane<'static, Tracked>>>>,
     pub pool: Arc<Pool<Tracked>>,
-    /// The keys that the first lane published before the threads began.
+    shape: Shape,
+    /// The keys that were published before the threads began.
     pub keys: Vec<Key>,
-    made: Mutex<Vec<Key>>,
+    /// What threads tell each other.
+    told: [AtomicU64; 2],
+    made: AtomicUsize,
     cleared: AtomicUsize,
 }
 
@@ -176,185 +156,238 @@ pub fn shape(lanes: u32, first_page: u32, pages: u32) -> Shape {
     }
 }
 
+/// How many places the shards of a shape have.
+fn places(shape: Shape) -> usize {
+    let of_a_shard = (shape.first_page << shape.pages) - shape.first_page;
+    (shape.lanes * of_a_shard) as usize
+}
+
 /// The number of the object that stands under `keys[index]`.
 pub fn number_of(index: usize) -> u64 {
     100 + index as u64
 }
 
-/// A pool of which all lanes are in hand.
-pub fn lanes_in_hand(shape: Shape, published: usize) -> World {
-    let pool = Pool::open(shape).expect("memory");
-    let mut world = World::of(pool, shape.lanes as usize);
+/// A pool with so many objects, in a shard that nobody has.
+pub fn published(shape: Shape, count: usize) -> World {
+    let pool = Pool::<Tracked>::open(shape).expect("a shape");
+    let lane = pool.lane().expect("a shard");
     let publish = |index| {
-        let lane = world.lanes[0].lock().expect("no panic");
-        let lane = lane.as_ref().expect("nobody has it");
-        lane.create_with(|object| object.set(number_of(index)))
+        let mut filling = lane.create().expect("a place");
+        filling.set(number_of(index));
+        filling.publish()
     };
-    let keys = (0..published).map(|index| publish(index).expect("a place"));
-    world.keys = keys.collect();
-    world
+    let keys: Vec<Key> = (0..count).map(publish).collect();
+    let distinct: HashSet<&Key> = keys.iter().collect();
+    assert_eq!(distinct.len(), count, "a key comes again");
+    if count == places(shape) {
+        // (So the shard knows that it is full.)
+        assert_eq!(lane.create().err(), Some(CreateError::Full));
+    }
+    drop(lane);
+    World::of(pool, shape, keys)
 }
 
-/// A growing pool of which so many lanes are in hand.
-pub fn growing(lanes: usize) -> World {
-    growing_by(Growth::new(), lanes)
-}
-
-/// One that grows so.
-pub fn growing_by(growth: Growth, lanes: usize) -> World {
-    World::of(growth.open().expect("memory"), lanes)
-}
-
-/// A pool of which all lanes are at home.
-pub fn lanes_at_home(shape: Shape, published: usize) -> World {
-    let mut world = lanes_in_hand(shape, published);
-    world.leave_lanes();
-    world
+/// A pool without memory yet.
+pub fn unopened(shape: Shape) -> World {
+    World::of(Pool::open(shape).expect("a shape"), shape, Vec::new())
 }
 
 impl World {
-    fn of(pool: Pool<Tracked>, lanes: usize) -> World {
-        let pool = Arc::new(pool);
-        let take = |_| Mutex::new(Some(pool.lane_owned().expect("nobody has it")));
+    fn of(pool: Pool<Tracked>, shape: Shape, keys: Vec<Key>) -> World {
         World {
-            lanes: (0..lanes).map(take).collect(),
-            pool: Arc::clone(&pool),
-            keys: Vec::new(),
-            made: Mutex::default(),
+            pool: Arc::new(pool),
+            shape,
+            keys,
+            told: Default::default(),
+            made: AtomicUsize::new(0),
             cleared: AtomicUsize::new(0),
         }
     }
+}
 
-    /// The lanes in hand come home.
-    pub fn leave_lanes(&mut self) {
-        self.lanes.clear();
-    }
+/// A reference finds the object of this number.
+pub fn look(object: &Tracked, number: u64) {
+    assert_eq!(object.get(), number, "another object");
+}
 
-    /// The first of them does.
-    pub fn leave_first(&self) {
-        drop(self.lanes[0].lock().expect("no panic").take());
-    }
-
-    /// Does something by a lane in hand.
-    pub fn by_lane(&self, number: usize, with: impl FnOnce(&Lane<'_, Tracked>)) {
-        let lane = self.lanes[number].lock().expect("no panic").take();
-        let lane = lane.expect("one thread has it");
-        with(&lane);
-        *self.lanes[number].lock().expect("no panic") = Some(lane);
-    }
-
-    /// The pool, for what a thread leaves to its end: the world goes when its threads have ended.
-    pub fn lasting_pool(&self) -> &'static Pool<Tracked> {
+impl World {
+    /// The world, for what a thread leaves to its end: it goes when its threads have ended.
+    pub fn lasting(&self) -> &'static World {
         // SAFETY: the world is dropped behind the last thread's end, and nothing that a thread has outlives that.
-        unsafe { &*Arc::as_ptr(&self.pool) }
+        unsafe { &*std::ptr::from_ref(self) }
     }
 
     /// Counts a clear that said yes.
-    pub fn count(&self, cleared: bool) {
+    pub fn count(&self, cleared: bool) -> bool {
         self.cleared.fetch_add(usize::from(cleared), SeqCst);
+        cleared
+    }
+
+    /// Counts an object that a thread published.
+    pub fn note(&self) {
+        self.made.fetch_add(1, SeqCst);
     }
 
     pub fn cleared(&self) -> usize {
         self.cleared.load(SeqCst)
     }
 
-    /// How many keys were published.
-    pub fn published(&self) -> usize {
-        self.keys.len() + self.made.lock().expect("no panic").len()
+    /// Tells whoever waits for it.
+    pub fn tell(&self, word: usize, key: Key) {
+        self.told[word].store(key.into(), Ordering::Release);
     }
 
-    /// Clears a key, which is found no more.
-    pub fn clear(&self, lane: &Lane<'_, Tracked>, key: Key) {
-        self.count(lane.clear(key));
-        assert!(lane.get(key).is_none(), "a cleared key is found");
+    /// The key that another thread tells.
+    pub fn wait_for(&self, word: usize) -> Key {
+        loop {
+            match self.told(word) {
+                Some(key) => return key,
+                None => spin_loop(),
+            }
+        }
     }
 
-    /// Notes a key that a thread published.
-    pub fn note(&self, key: Key) {
-        self.made.lock().expect("no panic").push(key);
+    /// The key that another thread has told, if it has.
+    pub fn told(&self, word: usize) -> Option<Key> {
+        Key::try_from(self.told[word].load(Ordering::Acquire)).ok()
     }
 
-    /// Publishes an object, which was empty.
-    pub fn make(&self, lane: &Lane<'_, Tracked>, number: u64) -> Option<Key> {
-        let mut filling = lane.create().ok()?;
+    pub fn get(&self, key: Key) -> Option<Ref<'_, Tracked>> {
+        call("get", || self.pool.get(key))
+    }
+
+    /// A get finds the object of this number, or none.
+    pub fn look(&self, key: Key, number: u64) -> bool {
+        let found = self.get(key);
+        if let Some(object) = &found {
+            look(object, number);
+        }
+        let is_found = found.is_some();
+        release(found);
+        is_found
+    }
+
+    /// The same by an owned handle.
+    pub fn look_owned(&self, key: Key, number: u64) {
+        if let Some(object) = call("get_owned", || self.pool.get_owned(key)) {
+            look(&object, number);
+            release_owned(object);
+        }
+    }
+
+    /// A get of one of the first keys.
+    pub fn look_at(&self, index: usize) -> bool {
+        self.look(self.keys[index], number_of(index))
+    }
+
+    /// Clears a key, which is found no more if this call says so.
+    pub fn clear(&self, key: Key) -> bool {
+        let cleared = call("clear", || self.pool.clear(key));
+        assert!(
+            !cleared || !self.pool.contains(key),
+            "a cleared key is found"
+        );
+        self.count(cleared)
+    }
+
+    /// Clears one of the first keys, which is found no more, whoever cleared it.
+    pub fn clear_at(&self, index: usize) {
+        self.clear(self.keys[index]);
+        assert!(
+            !self.pool.contains(self.keys[index]),
+            "a cleared key is found"
+        );
+    }
+
+    /// An object, which was empty, and gets this number.
+    pub fn create(&self, number: u64) -> Result<Filling<'_, Tracked>, CreateError> {
+        let mut filling = call("create", || self.pool.create())?;
         assert_eq!(filling.get(), 0, "an object isn't empty");
         filling.set(number);
-        let key = filling.publish();
-        self.note(key);
-        Some(key)
+        Ok(filling)
     }
 
-    /// Publishes an object by a call of the pool.
-    pub fn make_by_call(&self, number: u64) -> Option<Key> {
-        let mut filling = self.pool.create().ok()?;
-        assert_eq!(filling.get(), 0, "an object isn't empty");
-        filling.set(number);
-        let key = filling.publish();
-        self.note(key);
-        Some(key)
+    /// Publishes an object.
+    pub fn make(&self, number: u64) -> Result<Key, CreateError> {
+        Ok(self.publish(self.create(number)?))
     }
 
-    /// Closes the pool, of which nobody has a share any more.
+    pub fn publish(&self, filling: Filling<'_, Tracked>) -> Key {
+        let key = call("publish", || filling.publish());
+        self.note();
+        key
+    }
+
+    /// Closes the pool.
     pub fn close(self) -> Census {
-        drop(self.lanes);
         Arc::into_inner(self.pool).expect("ours").close()
     }
 
     /// Looks at what is left: what was published and not cleared, and room for all else. Answers how many clears said yes.
     pub fn settle(self) -> usize {
-        let (cleared, published) = (self.cleared(), self.published());
-        let mut more = 0;
-        for lane in &self.lanes {
-            let lane = lane.lock().expect("no panic");
-            let lane = lane.as_ref().expect("it came back");
-            while let Ok(filling) = lane.create() {
-                filling.publish();
-                more += 1;
-            }
-        }
-        let shape = self.pool.shape();
-        if self.lanes.is_empty() {
-            let lanes: Vec<_> = (0..shape.lanes).map_while(|_| self.pool.lane()).collect();
-            let mut numbers: Vec<u32> = lanes.iter().map(Lane::number).collect();
-            numbers.sort_unstable();
-            assert!(
-                numbers.iter().copied().eq(0..shape.lanes),
-                "the lanes at home are {numbers:?}"
-            );
-        }
-        if !self.lanes.is_empty() && shape.last_generation == u32::MAX {
-            let places = shape.lanes * ((shape.first_page << shape.pages) - shape.first_page);
-            assert_eq!(
-                more + published - cleared,
-                places as usize,
-                "a place is lost"
-            );
+        let (more, shards) = fill_all(&self.pool, &self.keys);
+        assert_eq!(shards, self.shape.lanes as usize, "a shard is lost");
+        let (cleared, made) = (self.cleared(), self.made.load(SeqCst));
+        let present = more + self.keys.len() + made - cleared;
+        let shape = self.shape;
+        if shape.last_generation == u32::MAX {
+            assert_eq!(present, places(shape), "a place is lost");
         }
         let census = self.close();
-        let present = more + published - cleared;
-        assert_eq!(
-            (census.present as usize, census.marked, census.filling),
-            (present, 0, 0)
-        );
+        let found = (census.present as usize, census.marked, census.filling);
+        assert_eq!(found, (present, 0, 0), "the census");
         cleared
     }
 }
 
-/// A get by a lane finds this object, or none.
-pub fn look(lane: &Lane<'_, Tracked>, key: Key, number: u64) {
-    if let Some(object) = lane.get(key) {
-        assert_eq!(object.get(), number);
+/// Publishes an object in each place that is free, by lanes that take each shard; and has the place used once more. (What a thread keeps lasts
+/// longer than the schedule.) Answers how many there are, and how many shards.
+fn fill_all(pool: &Pool<Tracked>, before: &[Key]) -> (usize, usize) {
+    let lanes: Vec<_> = iter::from_fn(|| pool.lane().ok()).collect();
+    let mut more = 0;
+    for lane in &lanes {
+        while let Ok(filling) = lane.create() {
+            let key = filling.publish();
+            assert!(!before.contains(&key), "a key comes again");
+            assert!(lane.clear(key), "the key of another place");
+            let mut filling = lane.create().expect("a place that is used again");
+            assert_eq!(filling.get(), 0, "an object isn't empty");
+            filling.set(1);
+            let key = filling.publish();
+            look(&pool.get(key).expect("published"), 1);
+            more += 1;
+        }
+    }
+    (more, lanes.len())
+}
+
+/// Ends a reference, if there is one.
+pub fn release(object: Option<Ref<'_, Tracked>>) {
+    if let Some(object) = object {
+        call("release", || drop(object));
     }
 }
 
-/// A get by a call of the pool finds this object, or none.
-pub fn look_by_call(pool: &Pool<Tracked>, key: Key, number: u64) {
-    if let Some(object) = pool.get(key) {
-        assert_eq!(object.get(), number);
-    }
+pub fn release_owned(object: OwnedRef<Tracked>) {
+    call("release of an owned", || drop(object));
 }
 
-/// The key of a place of the first page of the first lane, in this generation.
+/// The key of a place of the first page of the first shard, in this generation.
 pub fn key_of(generation: u64, slot: u64) -> Key {
     Key::try_from((generation << 24) + slot).expect("a key")
+}
+
+/// Nothing is lost.
+pub fn settled(world: World) {
+    world.settle();
+}
+
+/// Of one key, which one clear hid.
+pub fn cleared_once(world: World) {
+    assert_eq!(
+        (emptied(), alive()),
+        (1, 1),
+        "the object is emptied once, and stays"
+    );
+    assert_eq!(world.settle(), 1);
 }
