@@ -1,10 +1,10 @@
 /* An echo server with many connections on 127.0.0.1, and the clients that call it: over the pool, or over malloc and free.
  *
- *     echo HEAP CONNECTIONS REQUESTS        HEAP is pool or malloc; up to 800 connections, with so many requests on each
+ *     echo HEAP CONNECTIONS REQUESTS        HEAP is pool, any or malloc; up to 800 connections, with so many requests on each
  *
  * Eight threads read what the connections send into buffers, and eight others send it back and let the buffers go: so each buffer goes
- * from one thread to another. Each of the 16 has a lane. A thread ends after some turns and starts its successor, which goes on with its
- * lane. A child process has the clients: each sends a request of 64 to 4,000 bytes, waits for all of it to come back, and sends the next.
+ * from one thread to another. With `pool` each of the 16 has a lane; with `any`, which libpardz alone has, they have nothing of the pool,
+ * which grows. A thread ends after some turns and starts its successor, which goes on with its lane. A child process has the clients: each sends a request of 64 to 4,000 bytes, waits for all of it to come back, and sends the next.
  *
  * It prints the requests, how many there were a second, the microseconds that half of them and 99 of 100 took at most, and of the server's
  * process the microseconds of processor that a request took and the most memory. It stops by itself, after 60 seconds at the latest. */
@@ -44,6 +44,16 @@ static void must(int is_so, const char *what) {
     }
 }
 
+/* (The proved library hasn't these.) */
+#pragma weak pardz_grow
+#pragma weak pardz_any_create
+#pragma weak pardz_any_room
+#pragma weak pardz_any_wrote
+#pragma weak pardz_any_publish
+#pragma weak pardz_any_get
+#pragma weak pardz_any_release
+#pragma weak pardz_any_clear
+
 static void must_pool(uint32_t code, const char *what) {
     if (code != PARDZ_OK) {
         fprintf(stderr, "%s: %s, %s\n", what, pardz_code_name(code), pardz_strerror(code));
@@ -70,14 +80,22 @@ struct queue {
 /* A thread's work, which its successor goes on with. */
 struct worker {
     _Alignas(64) pardz_lane lane;
-    uint64_t filling; /* of a reader: a buffer that it didn't need yet, or 0 */
+    uint64_t filling;     /* of a reader: a buffer that it didn't need yet, or 0 */
+    pardz_filling unused; /* the same of the pool that any thread calls */
     struct queue queue;
 };
 
 static struct worker workers[WORKERS];
 static int ready; /* an epoll of the connections */
 static atomic_int open_connections;
-static int over_malloc;
+static pardz_pool pool = PARDZ_EMPTY;
+
+/* Where buffers come from. */
+static const struct heap {
+    const char *name;
+    uint64_t (*read)(struct worker *worker, int connection);
+    void (*answer)(struct worker *worker, struct answer answer);
+} *heap;
 
 /* How many workers still run. */
 static pthread_mutex_t running_lock = PTHREAD_MUTEX_INITIALIZER;
@@ -91,7 +109,8 @@ struct block {
 };
 
 /* Reads into a buffer what a connection has, and answers its address; 0 where nothing comes any more. */
-static uint64_t read_by_malloc(int connection) {
+static uint64_t read_by_malloc(struct worker *worker, int connection) {
+    (void)worker;
     struct block *block = malloc(sizeof *block);
     must(block != NULL, "malloc");
     ssize_t count = read(connection, block->bytes, CHUNK);
@@ -123,6 +142,22 @@ static uint64_t read_by_pool(struct worker *worker, int connection) {
     return key;
 }
 
+/* The same by any thread. */
+static uint64_t read_by_any(struct worker *worker, int connection) {
+    pardz_filling *filling = &worker->unused;
+    uint8_t *to;
+    uint64_t key = 0;
+    if (filling->key == 0)
+        must_pool(pardz_any_create(&pool, filling), "create");
+    must_pool(pardz_any_room(&pool, filling, CHUNK, &to), "room");
+    ssize_t count = read(connection, to, CHUNK);
+    if (count <= 0)
+        return 0;
+    must_pool(pardz_any_wrote(&pool, filling, (size_t)count), "wrote");
+    must_pool(pardz_any_publish(&pool, filling, &key), "publish");
+    return key;
+}
+
 /* Sends all of these bytes. */
 static void send_all(int connection, const uint8_t *bytes, size_t len) {
     while (len != 0) {
@@ -138,7 +173,8 @@ static void send_all(int connection, const uint8_t *bytes, size_t len) {
     }
 }
 
-static void answer_by_malloc(struct answer answer) {
+static void answer_by_malloc(struct worker *worker, struct answer answer) {
+    (void)worker;
     struct block *block = (struct block *)(uintptr_t)answer.buffer;
     send_all(answer.connection, block->bytes, block->len);
     free(block);
@@ -151,6 +187,29 @@ static void answer_by_pool(struct worker *worker, struct answer answer) {
     must_pool(pardz_clear(&worker->lane, answer.buffer), "clear");
     send_all(answer.connection, bytes, len);
     must_pool(pardz_release(&worker->lane, answer.buffer), "release");
+}
+
+static void answer_by_any(struct worker *worker, struct answer answer) {
+    (void)worker;
+    pardz_ref ref;
+    must_pool(pardz_any_get(&pool, answer.buffer, &ref), "get");
+    must_pool(pardz_any_clear(&pool, answer.buffer), "clear");
+    send_all(answer.connection, ref.at, ref.len);
+    must_pool(pardz_any_release(&pool, &ref), "release");
+}
+
+static const struct heap HEAPS[] = {
+    { "pool", read_by_pool, answer_by_pool },
+    { "any", read_by_any, answer_by_any },
+    { "malloc", read_by_malloc, answer_by_malloc },
+};
+
+/* The heap of this name, if it is there. */
+static const struct heap *heap_of(const char *name) {
+    for (size_t i = 0; i < sizeof HEAPS / sizeof *HEAPS; i++)
+        if (strcmp(HEAPS[i].name, name) == 0 && (HEAPS[i].read != read_by_any || pardz_grow != NULL))
+            return &HEAPS[i];
+    return NULL;
 }
 
 /* Waits for a connection again: one thread is told, once. */
@@ -176,7 +235,7 @@ static int read_one(struct worker *worker) {
     must(count >= 0 || errno == EINTR, "epoll_wait");
     if (count == 1) {
         struct answer answer = { event.data.fd, 0 };
-        answer.buffer = over_malloc ? read_by_malloc(answer.connection) : read_by_pool(worker, answer.connection);
+        answer.buffer = heap->read(worker, answer.connection);
         if (answer.buffer != 0) {
             hand_over(answer);
         } else {
@@ -205,10 +264,7 @@ static int answer_one(struct worker *worker) {
     }
     pthread_mutex_unlock(&queue->lock);
     if (answer.connection >= 0) {
-        if (over_malloc)
-            answer_by_malloc(answer);
-        else
-            answer_by_pool(worker, answer);
+        heap->answer(worker, answer);
         await(answer.connection, 0);
     }
     return atomic_load(&open_connections) != 0;
@@ -243,7 +299,10 @@ static void start(struct worker *worker) {
 static void serve(int listening, int connections, int tell) {
     const pardz_shape shape = { WORKERS, 64, 2, UINT32_MAX, 1 };
     pardz_lane lanes[WORKERS] = { PARDZ_EMPTY };
+    const pardz_limits limits = PARDZ_LIMITS;
     must_pool(pardz_open(&shape, lanes, WORKERS), "open");
+    if (pardz_grow != NULL)
+        must_pool(pardz_grow(&limits, &pool), "grow");
     must((ready = epoll_create1(0)) >= 0, "epoll_create1");
     atomic_store(&open_connections, connections);
     for (int i = 0; i < WORKERS; i++) {
@@ -267,6 +326,9 @@ static void serve(int listening, int connections, int tell) {
     for (int i = 0; i < WORKERS; i++)
         lanes[i] = workers[i].lane;
     must_pool(pardz_close_all(lanes, WORKERS, &census), "close");
+    must(census.present == 0 && census.marked == 0 && census.filling <= READERS, "all buffers given back");
+    if (pardz_grow != NULL)
+        must_pool(pardz_detach(&pool, &census), "detach");
     must(census.present == 0 && census.marked == 0 && census.filling <= READERS, "all buffers given back");
 }
 
@@ -399,21 +461,21 @@ static long most_memory(void) {
 }
 
 /* Prints what the clients saw, and what this process took for it. */
-static void print_figures(const char *heap, int connections, const struct figures *figures) {
+static void print_figures(int connections, const struct figures *figures) {
     struct rusage used;
     getrusage(RUSAGE_SELF, &used);
     const double requests = (double)figures->requests, second = 1e6;
     double processor = (double)(used.ru_utime.tv_sec + used.ru_stime.tv_sec) * second + (double)(used.ru_utime.tv_usec + used.ru_stime.tv_usec);
-    printf("%s: %d connections, %.0f requests, %.0f a second, half within %.0f us, 99 of 100 within %.0f us, %.1f us of processor, %.1f MB\n", heap,
+    printf("%s: %d connections, %.0f requests, %.0f a second, half within %.0f us, 99 of 100 within %.0f us, %.1f us of processor, %.1f MB\n", heap->name,
            connections, requests, requests * 1e9 / (double)figures->nanoseconds, (double)figures->half / 1000, (double)figures->most / 1000,
            processor / requests, (double)most_memory() / 1024);
 }
 
 int main(int argc, char **argv) {
     int connections = argc == 4 ? atoi(argv[2]) : 0, requests = argc == 4 ? atoi(argv[3]) : 0;
-    over_malloc = argc == 4 && strcmp(argv[1], "malloc") == 0;
-    if (argc != 4 || (!over_malloc && strcmp(argv[1], "pool") != 0) || connections < 1 || connections > MOST_CONNECTIONS || requests < 1) {
-        fprintf(stderr, "words: pool or malloc, a number of connections up to %d, and a number of requests on each\n", MOST_CONNECTIONS);
+    heap = argc == 4 ? heap_of(argv[1]) : NULL;
+    if (heap == NULL || connections < 1 || connections > MOST_CONNECTIONS || requests < 1) {
+        fprintf(stderr, "words: pool, any or malloc, a number of connections up to %d, and a number of requests on each\n", MOST_CONNECTIONS);
         return 1;
     }
     alarm(SECONDS);
@@ -434,6 +496,6 @@ int main(int argc, char **argv) {
     struct figures figures;
     int status = 1;
     must(read(from_clients[0], &figures, sizeof figures) == sizeof figures && waitpid(child, &status, 0) == child && status == 0, "the clients");
-    print_figures(argv[1], connections, &figures);
+    print_figures(connections, &figures);
     return 0;
 }

@@ -3,17 +3,19 @@
  * A thread fills a buffer and publishes it under a key; any thread with a lane reads it by a reference. A clear hides the key at
  * once, and whoever lets go last empties the buffer, which keeps its memory and is filled again under a new key.
  *
- * There are two ways. pardz_open gives each thread a lane of its own. pardz_attach opens a pool that any number of threads call, each
+ * There are three ways. pardz_open gives each thread a lane of its own. pardz_attach opens a pool that any number of threads call, each
  * call by a lane that it has for that call alone: pardz_pool_put and its like, which answer PARDZ_BUSY while others have all lanes.
  * With libpoolffi.a each thread calls by a slot of its own, which pardz_share fills; with libpardz.a and libpardz.so threads may also
- * call by one slot. These two alone have pardz_pool_census, and owned references (pardz_own and its like), which go to any thread and
- * outlive the slot of their pool.
+ * call by one slot. These two alone have the third way, pardz_grow and pardz_any_put and its like: any thread calls, and has nothing of
+ * the pool for it. They alone have pardz_pool_census, and owned references (pardz_own and its like), which go to any thread and outlive
+ * the slot of their pool.
  *
  * No call but pardz_await_put and its like locks anything or waits for another thread, unless the heap does so when memory is taken or
- * given back. Memory is taken by pardz_open, pardz_attach, pardz_share, pardz_create where it opens a page, pardz_append, pardz_room,
- * pardz_put, pardz_pool_put and pardz_own. It is given back by pardz_close, pardz_join, pardz_leave, pardz_unshare, pardz_detach, an
- * open or attach that is refused, whoever lets go last of a place that is used up, pardz_disown, and a call by a lane that pardz_disown
- * has told of a reference.
+ * given back; but for a pardz_any_put or pardz_any_create that has its thread's first places, or further ones, and the exit of such a
+ * thread, which share a lock for some steps. Memory is taken by pardz_open, pardz_attach, pardz_grow, pardz_share, pardz_create and
+ * pardz_any_create where they open a page, pardz_append, pardz_room, pardz_put, pardz_pool_put, pardz_any_put, pardz_any_append,
+ * pardz_any_room, pardz_own and pardz_any_own. It is given back by pardz_close, pardz_join, pardz_leave, pardz_unshare, pardz_detach, an open or attach
+ * that is refused, whoever lets go last of a place that is used up, pardz_disown, and a thread's exit.
  *
  * Link with heap.c and one of two libraries, whose calls do the same: libpoolffi.a, which is proved up to these calls, for x86-64 of
  * level 2 (x86-64-v2) and ELF; or libpardz.a or libpardz.so, which cargo builds, and which are made from the proved sources and not
@@ -24,13 +26,16 @@
  * - A lane is in one call at a time. It may go from thread to thread, where a lock, the start or the join of a thread, or a
  *   sequentially consistent atomic stands between the calls of one thread and those of the next. Two threads that call at once
  *   need two lanes.
- * - A slot (pardz_lane, pardz_pool or pardz_owned) is PARDZ_EMPTY before pardz_open, pardz_attach, pardz_share, pardz_own or
- *   pardz_own_again fills it. It may be moved by a plain copy, if the old copy isn't used again; nothing else writes to it or makes one
+ * - A slot (pardz_lane, pardz_pool or pardz_owned) is PARDZ_EMPTY before pardz_open, pardz_attach, pardz_grow, pardz_share, pardz_own,
+ *   pardz_any_own or pardz_own_again fills it. It may be moved by a plain copy, if the old copy isn't used again; nothing else writes to it or makes one
  *   up. Slots of threads that run at once best stand 64 bytes apart.
  * - With libpoolffi.a a pool's slot is in one call at a time, as a lane is. With the other libraries many threads may be in calls with it
  *   at once, but in none while it is attached, unshared or detached: a lock, the start or join of a thread, or such an atomic stands
- *   between. So it is with the slot of an owned reference and the calls that fill and empty it (pardz_own, pardz_own_again and
- *   pardz_disown).
+ *   between. So it is with the slot of an owned reference and the calls that fill and empty it (pardz_own, pardz_any_own,
+ *   pardz_own_again and pardz_disown).
+ * - A pardz_ref is released once, before its pool is detached, be it by the struct or by a copy; a pardz_filling is used by one thread at
+ *   a time, and not by a copy. Nothing else writes to either or makes one up. (A library that cargo built for debugging ends the process
+ *   at a second release, unless others refer to the same bytes.)
  * - A pointer that a call is given points to so much memory as the call reads or writes, for the time of the call, and to no slot
  *   and nothing else that the call writes: the slots of a join are two, and so are those of a share. It is never NULL, but for
  *   `bytes` where `len` is 0, and for `lanes` and `numbers` where `count` is 0.
@@ -42,8 +47,8 @@
  *
  * - PARDZ_GONE: where the key was cleared meanwhile, the call may have been the last to let go of its bytes, which are emptied then.
  * - PARDZ_MEMORY of an append or a room: an earlier room of the filling has ended. Its bytes are as before.
- * - PARDZ_MEMORY of pardz_put and pardz_pool_put: a page may be open, and a place have used up its next key (if that was its last, it
- *   is retired).
+ * - PARDZ_MEMORY of pardz_put, pardz_pool_put and pardz_any_put: a page may be open, and a place have used up its next key (if that was
+ *   its last, it is retired).
  * - PARDZ_MEMORY of pardz_own: where the key was cleared meanwhile, the call may have been the last to let go of it.
  * - PARDZ_SHARED of pardz_close: the slot may be empty, and the pool then keeps its memory.
  * - pardz_close_all: what it joined before it was refused is joined.
@@ -119,11 +124,37 @@ typedef struct pardz_owned {
     uint64_t key; /* what it refers to; 0 where the slot is empty */
 } pardz_owned;
 
-/* What the places of a pool were when it was closed. The six add up to lanes times places of a lane. */
+/* How far a pool that grows may go. pardz_limits limits = PARDZ_LIMITS; */
+typedef struct pardz_limits {
+    uint64_t places;          /* how many places there may be: from 1 */
+    uint32_t threads;         /* how many threads may put and create at once: from 1 */
+    uint32_t first_tag;       /* its keys have this tag, 0 to 255, and from the 65th such thread on those behind it, one for each 64 */
+    uint32_t tags;            /* how many tags there may be: from 1 */
+    uint32_t last_generation; /* as of a shape */
+} pardz_limits;
+
+/* As far as keys go: 16,384 threads at once, each with 44,992 places, or more where it has those of threads that have exited. */
+#define PARDZ_LIMITS { UINT64_MAX, UINT32_MAX, 0, 256, UINT32_MAX }
+
+/* A reference of a call by any thread, with its bytes. A copy is the same reference. */
+typedef struct pardz_ref {
+    const void *at; /* not written where len is 0 */
+    size_t len;
+    uint64_t key; /* 0 once it is released */
+} pardz_ref;
+
+/* A buffer that isn't published yet, of a call by any thread. */
+typedef struct pardz_filling {
+    uint64_t key; /* under which it will be published; 0 where there is none: it never was, or it ended */
+    size_t lent;  /* the library's: how many bytes pardz_any_room has lent */
+} pardz_filling;
+
+/* What the places of a pool were when it was closed. The six add up to lanes times places of a lane; or of a pool that grows, to the
+ * places of those who have put or created. */
 typedef struct pardz_census {
     uint32_t free;
     uint32_t unopened; /* in pages that were never needed */
-    uint32_t filling;  /* created, and neither published nor free again */
+    uint32_t filling;  /* created, and neither published nor free again; or emptied just now */
     uint32_t present;  /* published and not cleared */
     uint32_t marked;   /* cleared, with a reference that wasn't released */
     uint32_t retired;  /* used up: its last generation was cleared */
@@ -145,20 +176,22 @@ enum {
     PARDZ_OK = 0,
     PARDZ_MEMORY = 1,       /* memory was refused */
     PARDZ_EMPTY_LANE = 2,   /* the slot has no lane (or no pool, or no owned reference): it never had, or it ended */
-    PARDZ_FULL_LANE = 3,    /* open, attach, share, own: a slot already has a lane (or a pool, or an owned reference) */
-    PARDZ_FULL = 4,         /* create, put: no place of the lane is free */
+    PARDZ_FULL_LANE = 3,    /* open, attach, grow, share, own: a slot already has a lane (or a pool, or an owned reference) */
+    PARDZ_FULL = 4,         /* create, put: no place of the lane, or of the thread, is free */
     PARDZ_FILLINGS = 5,     /* create: the lane already has 16 fillings */
-    PARDZ_NO_FILLING = 6,   /* the lane has no filling under this key */
-    PARDZ_NO_REFERENCE = 7, /* the lane has no reference to this key */
+    PARDZ_NO_FILLING = 6,   /* the lane has no filling under this key, or the filling has ended */
+    PARDZ_NO_REFERENCE = 7, /* the lane has no reference to this key, or the reference was released */
     PARDZ_GONE = 8,         /* get, own, clear: nothing is published under the key in this pool, or it is cleared already */
-    PARDZ_REFERENCES = 9,   /* get, own, downgrade: the lane has 1,048,575 references, the most that it can have */
+    PARDZ_REFERENCES = 9,   /* get, downgrade: the lane has 1,048,575 references, the most that it can have; own, and by any thread: the
+                               key has 268,435,456 */
     PARDZ_OTHER_POOL = 10,  /* join: the lanes are of different pools */
     PARDZ_LANES = 11,       /* open: count isn't the shape's number of lanes; join, close: not the lane whose turn it is */
-    PARDZ_SHAPE = 12,       /* open, attach: the shape is outside its limits */
+    PARDZ_SHAPE = 12,       /* open, attach, grow: the shape is outside its limits */
     PARDZ_ROOM = 13,        /* wrote: more bytes than the last pardz_room gave */
     PARDZ_SHARED = 14,      /* close: all lanes were joined, but some into another pool that was opened under the same number;
                                detach: another slot has the pool too */
-    PARDZ_BUSY = 15         /* pardz_pool_put and its like, share: other calls have all lanes that could serve this one */
+    PARDZ_BUSY = 15         /* pardz_pool_put and its like, share, and a put or create by any thread: others have all lanes, or places,
+                               that could serve this one */
 };
 
 /* What a code says, for a message. It is never NULL: a number that is no code has a text too. */
@@ -416,11 +449,79 @@ uint32_t pardz_pool_census(const pardz_pool *pool, pardz_census *census);
 /* Closes the pool, and empties the slot: as a pardz_close of all its lanes. References that are left end with it, and count as present
  * or marked. No other slot has the pool: else PARDZ_SHARED. Owned references count too, but stay, with what they refer to; the last of
  * them gives the pool's memory back. No call with the pool is under way, which is the caller's duty: PARDZ_BUSY tells only of one that
- * has a lane just now, and of none where owned references are left.
+ * has a lane just now.
  * PARDZ_EMPTY_LANE, PARDZ_SHARED, PARDZ_BUSY. */
 uint32_t pardz_detach(pardz_pool *pool, pardz_census *census);
 
-/* The same calls for who may wait: they try again, from the next lane on, until a lane serves them. They answer each other code.
+/* Calls by any thread, in libpardz alone. A get, a clone, a release, a clear, and what is done with a filling, need nothing of the thread,
+ * and none of them is busy. A put or a create needs places: in a pool of pardz_grow it has those of its thread, which that has from its
+ * first put or create until it exits; in a pool of pardz_attach those of a lane that no call has. All these calls and those by lanes find
+ * each other's keys.
+ *
+ * Opens a pool that grows into an empty slot: it takes memory as it fills, page by page. It is shared, unshared, counted and detached as
+ * one of pardz_attach. (It has no lanes: pardz_pool_put, pardz_pool_get and pardz_pool_clear answer PARDZ_EMPTY_LANE, and
+ * pardz_pool_release PARDZ_NO_REFERENCE.) A thread that has put or created keeps some hundred bytes of the heap until it exits.
+ * PARDZ_MEMORY, PARDZ_FULL_LANE, PARDZ_SHAPE. */
+uint32_t pardz_grow(const pardz_limits *limits, pardz_pool *pool);
+
+/* Publishes bytes in a place of their own, and answers the key. PARDZ_BUSY: other threads, or other calls, have all places that it could
+ * have one of.
+ * PARDZ_MEMORY, PARDZ_EMPTY_LANE, PARDZ_FULL, PARDZ_BUSY. */
+uint32_t pardz_any_put(const pardz_pool *pool, const void *bytes, size_t len, uint64_t *key);
+
+/* Begins an empty filling, in any number. Any thread goes on with it.
+ * PARDZ_MEMORY, PARDZ_EMPTY_LANE, PARDZ_FULL, PARDZ_BUSY. */
+uint32_t pardz_any_create(const pardz_pool *pool, pardz_filling *filling);
+
+/* Appends to a filling. An earlier room ends, even where memory is refused. `bytes` may belong to a reference, but not to this filling.
+ * PARDZ_MEMORY, PARDZ_EMPTY_LANE, PARDZ_NO_FILLING. */
+uint32_t pardz_any_append(const pardz_pool *pool, pardz_filling *filling, const void *bytes, size_t len);
+
+/* Lends `count` bytes, zeros at first, behind those of the filling, which they continue. They may be written to until the next call with
+ * this filling, and belong to it only as far as pardz_any_wrote says so. An earlier room ends, even where memory is refused. *at isn't
+ * written where count is 0.
+ * PARDZ_MEMORY, PARDZ_EMPTY_LANE, PARDZ_NO_FILLING. */
+uint32_t pardz_any_room(const pardz_pool *pool, pardz_filling *filling, size_t count, uint8_t **at);
+
+/* The first `count` of the bytes that the last pardz_any_room lent now belong to the filling, and the others don't.
+ * PARDZ_EMPTY_LANE, PARDZ_NO_FILLING, PARDZ_ROOM. */
+uint32_t pardz_any_wrote(const pardz_pool *pool, pardz_filling *filling, size_t count);
+
+/* Publishes a filling, which ends, and answers its key: from now on each thread finds its bytes.
+ * PARDZ_EMPTY_LANE, PARDZ_NO_FILLING. */
+uint32_t pardz_any_publish(const pardz_pool *pool, pardz_filling *filling, uint64_t *key);
+
+/* Publishes a filling, which ends, and answers a reference to it.
+ * PARDZ_EMPTY_LANE, PARDZ_NO_FILLING. */
+uint32_t pardz_any_downgrade(const pardz_pool *pool, pardz_filling *filling, pardz_ref *ref);
+
+/* Ends a filling that isn't published. Its place is free again at once, and nothing is ever found under its key.
+ * PARDZ_EMPTY_LANE, PARDZ_NO_FILLING. */
+uint32_t pardz_any_drop(const pardz_pool *pool, pardz_filling *filling);
+
+/* Takes a reference, and tells the bytes. They stand where they are, and don't change, until all references to them are released, or the
+ * pool is detached; any thread may read them, and any may release the reference. ref->at isn't written where ref->len is 0.
+ * PARDZ_REFERENCES: there are 268,435,456 to this key.
+ * PARDZ_EMPTY_LANE, PARDZ_GONE, PARDZ_REFERENCES. */
+uint32_t pardz_any_get(const pardz_pool *pool, uint64_t key, pardz_ref *ref);
+
+/* One more reference to the same bytes, also where the key is cleared.
+ * PARDZ_EMPTY_LANE, PARDZ_NO_REFERENCE, PARDZ_REFERENCES. */
+uint32_t pardz_any_clone(const pardz_pool *pool, const pardz_ref *ref, pardz_ref *other);
+
+/* Gives a reference back, and sets ref->key to 0.
+ * PARDZ_EMPTY_LANE, PARDZ_NO_REFERENCE. */
+uint32_t pardz_any_release(const pardz_pool *pool, pardz_ref *ref);
+
+/* An owned reference to the same bytes, in an empty slot, also where the key is cleared (as pardz_own, which takes one by its key).
+ * PARDZ_MEMORY, PARDZ_EMPTY_LANE, PARDZ_FULL_LANE, PARDZ_NO_REFERENCE, PARDZ_REFERENCES. */
+uint32_t pardz_any_own(const pardz_pool *pool, const pardz_ref *ref, pardz_owned *owned);
+
+/* Clears a published key, as pardz_clear.
+ * PARDZ_EMPTY_LANE, PARDZ_GONE. */
+uint32_t pardz_any_clear(const pardz_pool *pool, uint64_t key);
+
+/* The same calls as those by a pool's lanes, for who may wait: they try again, from the next lane on, until a lane serves them. They answer each other code.
  *
  * A pardz_pool_put. PARDZ_FULL says that 64 tries, each from the next lane on, found no free place.
  * PARDZ_MEMORY, PARDZ_EMPTY_LANE, PARDZ_FULL. */
@@ -463,15 +564,15 @@ static inline uint32_t pardz_await_clear(const pardz_pool *pool, uint32_t from, 
 }
 
 /* Owned references, in libpardz alone: each stands in a slot of its own, goes to any thread, and may be given back by any. Its bytes stand
- * where they are, and don't change, until all slots that have it are empty: whoever clears its key, and also when the pool was detached. A
- * lane keeps the reference, which counts among the 1,048,575 that it can have; pardz_pool_release doesn't take it. Its slot is in
- * one call at a time, but for reads (pardz_owned_bytes) and copies (pardz_own_again), of which many threads may make some at once.
+ * where they are, and don't change, until all slots that have it are empty: whoever clears its key, and also when the pool was detached.
+ * None of these calls needs a lane, so none is busy, and pardz_pool_release doesn't take the reference. Its slot is in one call at a time,
+ * but for reads (pardz_owned_bytes) and copies (pardz_own_again), of which many threads may make some at once.
  *
- * Takes a reference into an empty slot.
- * PARDZ_MEMORY, PARDZ_EMPTY_LANE, PARDZ_FULL_LANE, PARDZ_GONE, PARDZ_REFERENCES, PARDZ_BUSY. */
+ * Takes a reference into an empty slot. (`from` is any number, as no lane is looked for.) PARDZ_REFERENCES: the key has 268,435,456.
+ * PARDZ_MEMORY, PARDZ_EMPTY_LANE, PARDZ_FULL_LANE, PARDZ_GONE, PARDZ_REFERENCES. */
 uint32_t pardz_own(const pardz_pool *pool, uint32_t from, uint64_t key, pardz_owned *owned);
 
-/* Another empty slot has the reference too. It needs no lane and no memory, and the key may be cleared, and the pool detached.
+/* Another empty slot has the reference too. It needs no memory, and the key may be cleared, and the pool detached.
  * PARDZ_EMPTY_LANE, PARDZ_FULL_LANE. */
 uint32_t pardz_own_again(const pardz_owned *owned, pardz_owned *other);
 
@@ -479,18 +580,15 @@ uint32_t pardz_own_again(const pardz_owned *owned, pardz_owned *other);
  * PARDZ_EMPTY_LANE. */
 uint32_t pardz_owned_bytes(const pardz_owned *owned, const uint8_t **at, size_t *len);
 
-/* Empties the slot. If no other has the reference, it is given back: by this call, or, where another has the lane that keeps it, by that
- * one before it leaves the lane. So it waits for none. The last reference of a pool that was detached gives the pool's memory back.
+/* Empties the slot. If no other has the reference, it is given back. The last reference of a pool that was detached gives the pool's
+ * memory back.
  * PARDZ_EMPTY_LANE. */
 uint32_t pardz_disown(pardz_owned *owned);
 
-/* A pardz_own for who may wait, as pardz_await_get.
+/* A pardz_own, which waits for none.
  * PARDZ_MEMORY, PARDZ_EMPTY_LANE, PARDZ_FULL_LANE, PARDZ_GONE, PARDZ_REFERENCES. */
 static inline uint32_t pardz_await_own(const pardz_pool *pool, uint32_t from, uint64_t key, pardz_owned *owned) {
-    uint32_t code;
-    while ((code = pardz_own(pool, from++, key, owned)) == PARDZ_BUSY)
-        PARDZ_YIELD();
-    return code;
+    return pardz_own(pool, from, key, owned);
 }
 
 /* What the library calls. heap.c has it over malloc, realloc and free; a program with a heap of its own has its own in the place of
@@ -521,7 +619,7 @@ typedef struct pardz_heap {
 } pardz_heap;
 
 /* From now on heap.c takes memory from this heap, of which it keeps a copy; NULL: from malloc and its like. It is called while no pool
- * is open and no thread is in a call. A heap of a program's own, in the place of heap.c, needn't have it. */
+ * is open and no thread is in a call, and before the first thread puts into a pool of pardz_grow, or after all such have exited. A heap of a program's own, in the place of heap.c, needn't have it. */
 void pardz_set_heap(const pardz_heap *heap);
 
 #ifdef __cplusplus

@@ -1,8 +1,8 @@
 // Classes over pardz.h, whose duties hold here too: C++11 or later. What is taken is given back where it ends: a reference is released, a
 // filling that wasn't published is cleared, and a pool is closed. Memory that is refused is a std::bad_alloc, and any other code that a
-// call here doesn't answer itself a pardz::error. References and fillings stay with their lane and end before its pool; so do those of
-// a shared_pool, which any thread may use and end. An owned_reference goes anywhere, and may outlive its pool. A reference that was moved
-// from has no bytes.
+// call here doesn't answer itself a pardz::error. References and fillings stay with their lane and end before its pool; those of a
+// shared_pool go to any thread, and end before it too. An owned_reference goes anywhere, and may outlive its pool. A reference that was
+// moved from has no bytes.
 #ifndef PARDZ_HPP
 #define PARDZ_HPP
 
@@ -11,7 +11,6 @@
 #include <cstddef>
 #include <cstdint>
 #include <exception>
-#include <functional>
 #include <memory>
 #include <new>
 #include <thread>
@@ -208,36 +207,6 @@ private:
     std::unique_ptr<lane[]> lanes_;
 };
 
-/// Bytes to which a lane of a shared_pool has a reference; or none, where a key isn't published.
-class shared_reference {
-public:
-    shared_reference(shared_reference &&other) noexcept : pool_(nullptr), lent_{nullptr, 0, 0, 0} { swap(other); }
-    shared_reference &operator=(shared_reference other) noexcept {
-        swap(other);
-        return *this;
-    }
-    ~shared_reference() {
-        if (pool_ != nullptr)
-            pardz_await_release(pool_, &lent_);
-    }
-    explicit operator bool() const noexcept { return pool_ != nullptr; }
-    const std::uint8_t *data() const noexcept { return lent_.at; }
-    std::size_t size() const noexcept { return lent_.len; }
-    const std::uint8_t *begin() const noexcept { return lent_.at; }
-    const std::uint8_t *end() const noexcept { return lent_.at + lent_.len; }
-    std::uint64_t key() const noexcept { return lent_.key; }
-
-private:
-    friend class shared_pool;
-    shared_reference(const pardz_pool *pool, const pardz_lent &lent) noexcept : pool_(pool), lent_(lent) {}
-    void swap(shared_reference &other) noexcept {
-        std::swap(pool_, other.pool_);
-        std::swap(lent_, other.lent_);
-    }
-    const pardz_pool *pool_;
-    pardz_lent lent_;
-};
-
 /// Bytes to which a program owns a reference, which goes to any thread and may outlive its pool; or none. A copy has the reference too.
 class owned_reference {
 public:
@@ -260,7 +229,12 @@ public:
     std::uint64_t key() const noexcept { return slot_.key; }
 
 private:
+    friend class shared_reference;
     friend class shared_pool;
+    void fill(std::uint32_t code) {
+        must(code);
+        must(pardz_owned_bytes(&slot_, &bytes_.at, &bytes_.len));
+    }
     void swap(owned_reference &other) noexcept {
         std::swap(slot_, other.slot_);
         std::swap(bytes_, other.bytes_);
@@ -269,9 +243,96 @@ private:
     pardz_bytes bytes_ = {nullptr, 0};
 };
 
-/// A pool that any number of threads call at once, over libpardz.a or libpardz.so. A call waits where others have all its lanes.
+/// Bytes to which a program has a reference, on whichever thread, as long as their shared_pool is open; or none. A copy is a reference more.
+class shared_reference {
+public:
+    shared_reference() noexcept = default;
+    shared_reference(const shared_reference &other) : pool_(other.pool_) {
+        if (other)
+            must(pardz_any_clone(pool_, &other.ref_, &ref_));
+    }
+    shared_reference(shared_reference &&other) noexcept { swap(other); }
+    shared_reference &operator=(shared_reference other) noexcept {
+        swap(other);
+        return *this;
+    }
+    ~shared_reference() {
+        if (*this)
+            pardz_any_release(pool_, &ref_);
+    }
+    explicit operator bool() const noexcept { return ref_.key != 0; }
+    const std::uint8_t *data() const noexcept { return static_cast<const std::uint8_t *>(ref_.at); }
+    std::size_t size() const noexcept { return ref_.len; }
+    const std::uint8_t *begin() const noexcept { return data(); }
+    const std::uint8_t *end() const noexcept { return data() + size(); }
+    std::uint64_t key() const noexcept { return ref_.key; }
+    /// An owned one to the same bytes; none where this is none.
+    owned_reference own() const {
+        owned_reference owned;
+        if (*this)
+            owned.fill(pardz_any_own(pool_, &ref_, &owned.slot_));
+        return owned;
+    }
+
+private:
+    friend class shared_filling;
+    friend class shared_pool;
+    explicit shared_reference(const pardz_pool *pool) noexcept : pool_(pool) {}
+    void swap(shared_reference &other) noexcept {
+        std::swap(pool_, other.pool_);
+        std::swap(ref_, other.ref_);
+    }
+    const pardz_pool *pool_ = nullptr;
+    pardz_ref ref_ = {nullptr, 0, 0};
+};
+
+/// A buffer of a shared_pool that is filled, on whichever thread. Where it ends unpublished its place is free again.
+class shared_filling {
+public:
+    shared_filling(shared_filling &&other) noexcept : pool_(other.pool_), filling_(other.filling_) { other.filling_.key = 0; }
+    ~shared_filling() {
+        if (filling_.key != 0)
+            pardz_any_drop(pool_, &filling_);
+    }
+    std::uint64_t key() const noexcept { return filling_.key; }
+    void append(const void *bytes, std::size_t len) { must(pardz_any_append(pool_, &filling_, bytes, len)); }
+    /// So many bytes to write to, behind those of the filling, until the next call with it. NULL where count is 0.
+    std::uint8_t *room(std::size_t count) {
+        std::uint8_t *at = nullptr;
+        must(pardz_any_room(pool_, &filling_, count, &at));
+        return at;
+    }
+    /// The first so many bytes of the room belong to the filling.
+    void wrote(std::size_t count) { must(pardz_any_wrote(pool_, &filling_, count)); }
+    /// Publishes the bytes, and answers the key. It is the last call with the filling.
+    std::uint64_t publish() {
+        std::uint64_t key = 0;
+        must(pardz_any_publish(pool_, &filling_, &key));
+        return key;
+    }
+    /// Publishes the bytes, and answers a reference to them. It is the last call with the filling.
+    shared_reference downgrade() {
+        shared_reference reference(pool_);
+        must(pardz_any_downgrade(pool_, &filling_, &reference.ref_));
+        return reference;
+    }
+
+private:
+    friend class shared_pool;
+    explicit shared_filling(const pardz_pool *pool) noexcept : pool_(pool) {}
+    const pardz_pool *pool_;
+    pardz_filling filling_ = {0, 0};
+};
+
+/// For a shared_pool that grows, but no further than its limits: shared_pool pool(pardz::grows, limits).
+enum grows_t { grows };
+
+/// A pool that any number of threads call at once, over libpardz.a or libpardz.so, with nothing in hand. It grows; or it has a shape, and then a
+/// put or a create waits where others have all its lanes.
 class shared_pool {
 public:
+    shared_pool() : shared_pool(grows, PARDZ_LIMITS) {}
+    shared_pool(grows_t, const pardz_limits &limits) { must(pardz_grow(&limits, &slot_)); }
     explicit shared_pool(const pardz_shape &shape) { must(pardz_attach(&shape, &slot_)); }
     shared_pool(const shared_pool &) = delete;
     shared_pool &operator=(const shared_pool &) = delete;
@@ -282,20 +343,27 @@ public:
     /// Publishes bytes, and answers their key.
     std::uint64_t put(const void *bytes, std::size_t len) const {
         std::uint64_t key = 0;
-        must(pardz_await_put(&slot_, from(), static_cast<const std::uint8_t *>(bytes), len, &key));
+        await([&] { return pardz_any_put(&slot_, bytes, len, &key); });
         return key;
+    }
+    /// A filling without bytes.
+    shared_filling create() const {
+        shared_filling filling(&slot_);
+        await([&] { return pardz_any_create(&slot_, &filling.filling_); });
+        return filling;
     }
     /// A reference to what is published under the key; it is false where nothing is.
     shared_reference get(std::uint64_t key) const {
-        pardz_lent lent = {nullptr, 0, key, 0};
-        const bool found = is_there(pardz_await_get(&slot_, from(), key, &lent));
-        return shared_reference(found ? &slot_ : nullptr, lent);
+        shared_reference found(&slot_);
+        is_there(pardz_any_get(&slot_, key, &found.ref_));
+        return found;
     }
     /// The same, owned.
     owned_reference own(std::uint64_t key) const {
         owned_reference owned;
-        if (is_there(pardz_await_own(&slot_, from(), key, &owned.slot_)))
-            must(pardz_owned_bytes(&owned.slot_, &owned.bytes_.at, &owned.bytes_.len));
+        const std::uint32_t code = pardz_own(&slot_, 0, key, &owned.slot_);
+        if (is_there(code))
+            owned.fill(code);
         return owned;
     }
     /// What its places are now.
@@ -305,7 +373,7 @@ public:
         return census;
     }
     /// Whether this call cleared the key.
-    bool clear(std::uint64_t key) const { return is_there(pardz_await_clear(&slot_, from(), key)); }
+    bool clear(std::uint64_t key) const { return is_there(pardz_any_clear(&slot_, key)); }
     /// Closes the pool, and answers what its places were. No shared_reference is left, and no thread uses it any more.
     pardz_census close() {
         pardz_census census;
@@ -316,8 +384,12 @@ public:
     const pardz_pool *slot() const noexcept { return &slot_; }
 
 private:
-    // Threads begin at lanes of their own.
-    static std::uint32_t from() { return static_cast<std::uint32_t>(std::hash<std::thread::id>()(std::this_thread::get_id()) >> 12); }
+    template <typename Call> static void await(Call call) {
+        std::uint32_t code;
+        while ((code = call()) == PARDZ_BUSY)
+            std::this_thread::yield();
+        must(code);
+    }
     pardz_pool slot_ = PARDZ_EMPTY;
 };
 

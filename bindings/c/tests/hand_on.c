@@ -64,7 +64,7 @@ static pardz_owned *put_and_own(const pardz_pool *pool, uint64_t seed) {
 static void attach_anew(struct attached *at) {
     pardz_census census;
     pthread_rwlock_wrlock(&at->lock);
-    CHECK(pardz_detach(&at->pool, &census) == PARDZ_OK && at->pool.full == 0 && census.present == 0 && census.filling == 0);
+    CHECK(pardz_detach(&at->pool, &census) == PARDZ_OK && at->pool.full == 0 && census.present == 0);
     CHECK(pardz_attach(&shape, &at->pool) == PARDZ_OK);
     pthread_rwlock_unlock(&at->lock);
     atomic_fetch_add(&detached, 1);

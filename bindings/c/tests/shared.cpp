@@ -2,14 +2,16 @@
 #include "../pardz.hpp"
 #include "check.h"
 
+#include <algorithm>
 #include <string>
 #include <thread>
 #include <type_traits>
 #include <vector>
 
-static_assert(!std::is_copy_constructible<pardz::shared_reference>::value && !std::is_copy_constructible<pardz::shared_pool>::value, "");
+static_assert(!std::is_copy_constructible<pardz::shared_filling>::value && !std::is_copy_constructible<pardz::shared_pool>::value, "");
 static_assert(!std::is_copy_assignable<pardz::shared_pool>::value && !std::is_move_assignable<pardz::shared_pool>::value, "it stays");
-static_assert(std::is_nothrow_move_constructible<pardz::shared_reference>::value, "moved, not copied");
+static_assert(std::is_nothrow_move_constructible<pardz::shared_filling>::value && !std::is_copy_assignable<pardz::shared_filling>::value, "moved, not copied");
+static_assert(std::is_nothrow_move_constructible<pardz::shared_reference>::value && std::is_copy_constructible<pardz::shared_reference>::value, "");
 static_assert(std::is_nothrow_copy_constructible<pardz::owned_reference>::value && std::is_nothrow_move_constructible<pardz::owned_reference>::value, "");
 
 template <typename Reference> static std::string text(const Reference &found) { return std::string(found.begin(), found.end()); }
@@ -47,9 +49,39 @@ static void owned() {
     CHECK(!first && text(second) == "owned");
 }
 
+// Fillings and references that go from thread to thread, of a pool that grows.
+static void growing() {
+    pardz::shared_pool pool;
+    pardz::shared_filling filling = pool.create();
+    const std::uint64_t key = filling.key();
+    filling.append("from ", 5);
+    CHECK(!pool.get(key) && pool.census().filling == 1);
+    pardz::shared_reference found;
+    std::thread([&] {
+        std::copy_n("two threads", 11, filling.room(16));
+        filling.wrote(11);
+        found = filling.downgrade();
+    }).join();
+    CHECK(text(found) == "from two threads" && found.key() == key && filling.key() == 0);
+    pardz::shared_reference copy = found;
+    pardz::owned_reference owned = copy.own();
+    CHECK(pool.clear(key) && !pool.clear(key));
+    found = pardz::shared_reference();
+    CHECK(!found && copy.data() == owned.data() && text(copy) == "from two threads" && !found.own());
+    std::thread([&copy] { copy = pardz::shared_reference(); }).join();
+    pool.create().append("dropped", 7);
+    CHECK(pool.census().filling == 0 && pool.census().marked == 1 && text(owned) == "from two threads");
+    pardz::shared_filling moved(pool.create());
+    const std::uint64_t last = pardz::shared_filling(std::move(moved)).publish();
+    CHECK(moved.key() == 0 && pool.get(last) && pool.get(last).size() == 0);
+    CHECK(pool.close().present == 1 && text(owned) == "from two threads");
+    CHECK(code_of([] { pardz::shared_pool none(pardz::grows, {1, 1, 0, 0, 1}); }) == PARDZ_SHAPE);
+}
+
 // What one thread puts, another reads, clears and gives back, over fewer lanes than threads.
 int main() {
     owned();
+    growing();
     const pardz_shape shape = {2, 8, 1, UINT32_MAX, 3};
     pardz::shared_pool pool(shape);
     pardz::shared_reference kept = pool.get(1);

@@ -4,7 +4,7 @@
 pub(crate) const OK: u32 = 0;
 
 /// Why a call did nothing, by its code.
-#[derive(Clone, Copy)]
+#[derive(Clone, Copy, Debug)]
 #[repr(u32)]
 pub(crate) enum Refusal {
     /// Memory was refused.
@@ -23,7 +23,7 @@ pub(crate) enum Refusal {
     NoReference = 7,
     /// The key isn't published, or it is cleared, or it is none.
     Gone = 8,
-    /// The lane has as many references as it can.
+    /// There are as many references as there can be.
     References = 9,
     /// The lanes are of different pools.
     OtherPool = 10,
@@ -33,16 +33,19 @@ pub(crate) enum Refusal {
     Shape = 12,
     /// There is no room of so many bytes.
     Room = 13,
-    /// All lanes were joined, and yet the pool isn't let go.
+    /// Others have the pool too.
     Shared = 14,
     /// Other calls have all lanes that could serve it.
     Busy = 15,
 }
 
-/// The code of an answer.
-#[inline]
-pub(crate) fn code(answer: Result<(), Refusal>) -> u32 {
-    match answer {
+/// What a call answers.
+pub(crate) type Answer<V = ()> = Result<V, Refusal>;
+
+/// The code of what a call answers.
+#[inline(always)]
+pub(crate) fn code(call: impl FnOnce() -> Answer) -> u32 {
+    match call() {
         Ok(()) => OK,
         Err(refusal) => refusal as u32,
     }

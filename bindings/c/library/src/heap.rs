@@ -23,7 +23,7 @@ struct Heap;
 #[cfg_attr(any(test, pardz_explore), allow(dead_code))]
 static HEAP: Heap = Heap;
 
-/// The most that a block is aligned to.
+/// The most that the program's heap aligns a block to.
 const MOST_ALIGN: usize = 16;
 
 /// As Rust has it: null where it was refused.
@@ -35,26 +35,59 @@ fn told(block: Block) -> *mut u8 {
     }
 }
 
+/// A block that is aligned to more: it stands within a larger one, whose address stands in front of it.
+///
+/// # Safety
+///
+/// As of `GlobalAlloc::alloc`.
+#[cold]
+unsafe fn alloc_within(layout: Layout) -> *mut u8 {
+    let Some(size) = layout.size().checked_add(layout.align()) else {
+        return ptr::null_mut();
+    };
+    // SAFETY: the program has it, and it asks for nothing.
+    let outer = told(unsafe { pardz_alloc(size, MOST_ALIGN) });
+    if outer.is_null() {
+        return outer;
+    }
+    // SAFETY: the outer block is aligned to 16, so 16 bytes at least and `align` at most are in front of the inner one, which fits behind them.
+    unsafe {
+        let inner = outer.add(layout.align() - outer as usize % layout.align());
+        inner.cast::<*mut u8>().sub(1).write(outer);
+        inner
+    }
+}
+
 // SAFETY: the header asks of the program's heap what is asked here.
 unsafe impl GlobalAlloc for Heap {
     #[inline]
     unsafe fn alloc(&self, layout: Layout) -> *mut u8 {
         if layout.align() > MOST_ALIGN {
-            return ptr::null_mut();
+            // SAFETY: asked of whoever calls.
+            return unsafe { alloc_within(layout) };
         }
         // SAFETY: the program has it, and it asks for nothing.
         told(unsafe { pardz_alloc(layout.size(), layout.align()) })
     }
 
     #[inline]
-    unsafe fn dealloc(&self, at: *mut u8, _: Layout) {
+    unsafe fn dealloc(&self, at: *mut u8, layout: Layout) {
+        let outer = match layout.align() > MOST_ALIGN {
+            // SAFETY: `alloc_within` wrote it there.
+            true => unsafe { at.cast::<*mut u8>().sub(1).read() },
+            false => at,
+        };
         // SAFETY: it is a block of this heap, which nobody uses any more.
-        unsafe { pardz_dealloc(at.cast()) };
+        unsafe { pardz_dealloc(outer.cast()) };
     }
 
     #[inline]
     unsafe fn realloc(&self, at: *mut u8, layout: Layout, size: usize) -> *mut u8 {
         let kept = layout.size().min(size);
+        if layout.align() > MOST_ALIGN {
+            // (No row of such values grows.)
+            return ptr::null_mut();
+        }
         // SAFETY: it is a block of this heap, with so many bytes.
         told(unsafe { pardz_realloc(at.cast(), kept, size, layout.align()) })
     }

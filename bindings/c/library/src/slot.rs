@@ -1,64 +1,63 @@
-//! The two words that a program keeps of a lane: `pardz_lane`.
-use crate::code::Refusal;
-use crate::handle::Handle;
-use crate::place;
-use std::ptr::{self, NonNull};
+//! The two words that a program keeps of a lane, a pool or an owned reference: `pardz_lane`, `pardz_pool`, `pardz_owned`.
+use crate::code::{Answer, Refusal};
+use std::ops::{Deref, DerefMut};
 
-/// A slot: empty, or with a lane. It is moved by plain copies.
+/// Empty, or with a pointer of this kind, which is then not null. It is moved by plain copies.
 #[repr(C)]
-pub(crate) struct Slot {
-    pub(crate) at: *mut Handle,
+pub(crate) struct Slot<P> {
+    pub(crate) at: Option<P>,
+    /// For the program: 0 where the slot is empty; else 1, and of an owned reference its key.
     pub(crate) full: u64,
 }
 
-impl Slot {
-    /// A slot without a lane.
-    pub(crate) fn empty() -> Slot {
-        Slot {
-            at: ptr::null_mut(),
-            full: 0,
-        }
-    }
-
-    /// Puts a lane into the slot.
-    pub(crate) fn fill(&mut self, at: NonNull<Handle>) {
-        *self = Slot {
-            at: at.as_ptr(),
-            full: 1,
-        };
-    }
-
-    pub(crate) fn is_full(&self) -> bool {
-        self.full == 1
-    }
-
-    /// The lane of a slot, for one call.
-    ///
-    /// # Safety
-    ///
-    /// A slot stands there, and its lane is in no other call.
+impl<P: Deref> Slot<P> {
+    /// What it has.
     #[inline]
-    pub(crate) unsafe fn lend<'c>(slot: *mut Slot) -> Result<&'c mut Handle, Refusal> {
-        // SAFETY: asked of whoever calls.
-        let slot = unsafe { &*slot };
-        if !slot.is_full() {
-            return Err(Refusal::EmptyLane);
-        }
-        // SAFETY: a full slot has the address of its lane, which no other call has.
-        Ok(unsafe { &mut *slot.at })
+    pub(crate) fn get(&self) -> Answer<&P> {
+        self.at.as_ref().ok_or(Refusal::EmptyLane)
     }
 
-    /// Takes the lane out, and the slot is empty.
-    ///
-    /// # Safety
-    ///
-    /// As with `lend`; the slot is full, and what was lent of it isn't used any more.
-    pub(crate) unsafe fn take(slot: *mut Slot) -> Handle {
-        // SAFETY: asked of whoever calls.
-        let slot = unsafe { &mut *slot };
-        let at = slot.at;
-        *slot = Slot::empty();
-        // SAFETY: a full slot has the address of a lane, which was put into a place; and it has it no more.
-        unsafe { place::take(NonNull::new_unchecked(at)) }
+    /// That it has nothing.
+    pub(crate) fn must_be_empty(&self) -> Answer {
+        match self.at {
+            Some(_) => Err(Refusal::FullLane),
+            None => Ok(()),
+        }
+    }
+
+    /// Fills it, which is empty. `full` isn't 0.
+    pub(crate) fn fill(&mut self, at: P, full: u64) {
+        *self = Slot { at: Some(at), full };
+    }
+
+    /// Fills it, if it is empty, with what this answers.
+    pub(crate) fn fill_by(&mut self, full: u64, make: impl FnOnce() -> Answer<P>) -> Answer {
+        self.must_be_empty()?;
+        self.fill(make()?, full);
+        Ok(())
+    }
+
+    /// Empties it.
+    pub(crate) fn take(&mut self) -> Answer<P> {
+        self.full = 0;
+        self.at.take().ok_or(Refusal::EmptyLane)
+    }
+}
+
+impl<P: DerefMut> Slot<P> {
+    /// What it has, for a call that has it alone.
+    #[inline]
+    pub(crate) fn get_mut(&mut self) -> Answer<&mut P::Target> {
+        self.at.as_deref_mut().ok_or(Refusal::EmptyLane)
+    }
+}
+
+impl<P: Deref + Clone> Slot<P> {
+    /// Another slot, which is empty, has the same.
+    pub(crate) fn share(&self, other: &mut Slot<P>) -> Answer {
+        let at = self.get()?;
+        other.must_be_empty()?;
+        other.fill(at.clone(), self.full);
+        Ok(())
     }
 }

@@ -1,13 +1,14 @@
-//! Tests: types and codes are laid out and numbered here as the lines of `tests/abi.def` say, which the header is compared with too; and
-//! each call has the parameters that the header declares.
+//! Tests of `library`: types and codes are laid out and numbered there as the lines of `abi.def` say, which the header is compared with too;
+//! and each call has the parameters that the header declares.
 use crate::code::{Refusal, OK};
-use crate::handle::{LOOKED, NUMBERS};
+use crate::exports::*;
+use crate::filling::PoolFilling;
 use crate::heap::Block;
-use crate::owned::OwnedSlot;
-use crate::slot::Slot;
-use crate::store::PoolSlot;
-use crate::{PoolCensus, PoolLent, PoolShape};
-use std::ffi::c_char;
+use crate::lane::{LaneSlot, NUMBERS};
+use crate::reference::{OwnedSlot, PoolLent, PoolRef};
+use crate::store::{PoolLimits, PoolSlot};
+use pardz::{Census, Shape};
+use std::ffi::{c_char, c_void};
 use std::mem::{align_of, offset_of, size_of};
 
 /// The size of a field.
@@ -18,16 +19,16 @@ fn size_of_field<S, F>(_: impl FnOnce(&S) -> &F) -> usize {
 /// What a lane tells by `pardz_numbers`, number after number.
 #[repr(C)]
 struct PoolStats {
-    shape: PoolShape,
+    shape: Shape,
     lane: u32,
     references: u32,
     fillings: u32,
     joined: u32,
     opened: u32,
-    places: PoolCensus,
+    places: Census,
 }
 
-const _: () = assert!(size_of::<PoolStats>() == size_of::<[u32; NUMBERS + LOOKED]>());
+const _: () = assert!(size_of::<PoolStats>() == size_of::<[u32; NUMBERS]>());
 
 /// The lines of a type and of its fields.
 macro_rules! lines {
@@ -67,18 +68,26 @@ const CODES: [(&str, u32); 16] = [
 #[test]
 fn is_as_the_header_says() {
     let mut here = Vec::new();
-    here.extend(lines!("pardz_lane" is Slot: at full));
+    here.extend(lines!("pardz_lane" is LaneSlot: at full));
     here.extend(lines!("pardz_pool" is PoolSlot: at full));
     here.extend(lines!("pardz_lent" is PoolLent: at len key lane));
-    here.extend(lines!("pardz_owned" is OwnedSlot: at key));
-    here.extend(lines!("pardz_shape" is PoolShape: lanes first_page pages last_generation tag));
+    // (Where an owned reference is, its word is the key.)
+    here.extend(
+        lines!("pardz_owned" is OwnedSlot: at full).map(|line| line.replace("full", "key")),
+    );
+    here.extend(
+        lines!("pardz_limits" is PoolLimits: places threads first_tag tags last_generation),
+    );
+    here.extend(lines!("pardz_ref" is PoolRef: at len key));
+    here.extend(lines!("pardz_filling" is PoolFilling: key lent));
+    here.extend(lines!("pardz_shape" is Shape: lanes first_page pages last_generation tag));
     here.extend(
         lines!("pardz_stats" is PoolStats: shape lane references fillings joined opened places),
     );
-    here.extend(lines!("pardz_census" is PoolCensus: free unopened filling present marked retired));
+    here.extend(lines!("pardz_census" is Census: free unopened filling present marked retired));
     here.extend(lines!("pardz_block" is Block: ok at));
     here.extend(CODES.map(|(name, number)| format!("CODE({name}, {number})")));
-    let said = include_str!("../../tests/abi.def").lines();
+    let said = include_str!("abi.def").lines();
     let said: Vec<&str> = said.filter(|line| line.ends_with(')')).collect();
     assert_eq!(here, said);
 }
@@ -100,22 +109,30 @@ in_c! {
     u32: "uint32_t",
     u64: "uint64_t",
     usize: "size_t",
-    *mut usize: "size_t *",
-    *mut u64: "uint64_t *",
+    Out<'_, usize>: "size_t *",
+    Out<'_, u64>: "uint64_t *",
     *mut u32: "uint32_t *",
     *const u8: "const uint8_t *",
-    *mut *mut u8: "uint8_t **",
-    *mut *const u8: "const uint8_t **",
+    *const c_void: "const void *",
+    Out<'_, *mut u8>: "uint8_t **",
+    Out<'_, *const u8>: "const uint8_t **",
     *const c_char: "const char *",
-    *mut Slot: "pardz_lane *",
-    *mut PoolSlot: "pardz_pool *",
-    *const PoolSlot: "const pardz_pool *",
-    *mut PoolLent: "pardz_lent *",
-    *const PoolLent: "const pardz_lent *",
-    *const PoolShape: "const pardz_shape *",
-    *mut OwnedSlot: "pardz_owned *",
-    *const OwnedSlot: "const pardz_owned *",
-    *mut PoolCensus: "pardz_census *",
+    *mut LaneSlot: "pardz_lane *",
+    &mut LaneSlot: "pardz_lane *",
+    &mut PoolSlot: "pardz_pool *",
+    &PoolSlot: "const pardz_pool *",
+    Out<'_, PoolLent>: "pardz_lent *",
+    &PoolLent: "const pardz_lent *",
+    &Shape: "const pardz_shape *",
+    &PoolLimits: "const pardz_limits *",
+    Out<'_, PoolRef>: "pardz_ref *",
+    &mut PoolRef: "pardz_ref *",
+    &PoolRef: "const pardz_ref *",
+    Out<'_, PoolFilling>: "pardz_filling *",
+    &mut PoolFilling: "pardz_filling *",
+    &mut OwnedSlot: "pardz_owned *",
+    &OwnedSlot: "const pardz_owned *",
+    Out<'_, Census>: "pardz_census *",
 }
 
 /// The types of what a call answers and of its parameters.
@@ -138,7 +155,7 @@ prototypes! { () (A) (A B) (A B C) (A B C D) (A B C D E) }
 /// The prototype of a call, without the names of its parameters.
 macro_rules! prototype {
     ($name:ident($($any:tt)*)) => {{
-        let (answer, parameters) = (crate::$name as unsafe extern "C" fn($($any),*) -> _).types();
+        let (answer, parameters) = ($name as unsafe extern "C" fn($($any),*) -> _).types();
         (stringify!($name).to_string(), answer.to_string(), parameters.join(", "))
     }};
 }
@@ -191,12 +208,26 @@ fn has_the_parameters_that_the_header_declares() {
         prototype!(pardz_pool_clear(_ _ _)),
         prototype!(pardz_pool_census(_ _)),
         prototype!(pardz_detach(_ _)),
+        prototype!(pardz_grow(_ _)),
+        prototype!(pardz_any_put(_ _ _ _)),
+        prototype!(pardz_any_create(_ _)),
+        prototype!(pardz_any_append(_ _ _ _)),
+        prototype!(pardz_any_room(_ _ _ _)),
+        prototype!(pardz_any_wrote(_ _ _)),
+        prototype!(pardz_any_publish(_ _ _)),
+        prototype!(pardz_any_downgrade(_ _ _)),
+        prototype!(pardz_any_drop(_ _)),
+        prototype!(pardz_any_get(_ _ _)),
+        prototype!(pardz_any_clone(_ _ _)),
+        prototype!(pardz_any_release(_ _)),
+        prototype!(pardz_any_own(_ _ _)),
+        prototype!(pardz_any_clear(_ _)),
         prototype!(pardz_own(_ _ _ _)),
         prototype!(pardz_own_again(_ _)),
         prototype!(pardz_owned_bytes(_ _ _)),
         prototype!(pardz_disown(_)),
     ];
-    let header = include_str!("../../pardz.h").lines();
+    let header = include_str!("../pardz.h").lines();
     let of_heap = ["alloc", "realloc", "dealloc", "next_number", "set_heap"]
         .map(|name| format!("pardz_{name}"));
     let said: Vec<_> = header
