@@ -1,5 +1,6 @@
 mod Guarding
 mod Slots
 mod Rows
+mod Whole
 mod Seating
 mod Lending

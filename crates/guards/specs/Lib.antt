@@ -4,4 +4,5 @@ pub mod Here
 pub mod Named
 pub mod Seated
 pub mod Runs
+pub mod Rows
 pub mod Several

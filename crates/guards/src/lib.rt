@@ -2,6 +2,7 @@
 //! jobs on them in threads.
 #![tactic(auto)]
 
+mod closes;
 mod closures;
 mod contents;
 mod filling;
@@ -16,6 +17,7 @@ mod seats;
 mod several;
 mod told;
 
+pub use closes::{Unclosed, close_rows};
 pub use closures::{create_with, with};
 pub use contents::Contents;
 pub use filling::FillGuard;

@@ -4,4 +4,5 @@ pub mod Kept
 mod ClearActs
 mod ClearsAlone
 pub mod Clearing
+pub mod Passing
 pub mod Guests

@@ -1,14 +1,15 @@
 -- Laws of guests, and of pools that have some, each as a client cites it.
 use Rattle.std.specs.Prelude.{◌≡◌, ◌⊎◌, ℕ, ◌<◌, ◌≤◌, Bool, true, false, IsTrue, List, [], ◌∷◌, ◌++◌, Some, length, slice_get, if◌then◌else◌}
 use mathlib.Core.List.{IsPrefix}
+use Rattle.keybits.specs.declared.shape.Shape.{Shape}
 use Rattle.seqpool.specs.declared.act.Act.{Act}
 use Rattle.seqpool.specs.declared.act.Act.TheVariants as acts
-use Rattle.seqpool.specs.Pool.{has, NoRepeats}
+use Rattle.seqpool.specs.Pool.{has, NoRepeats, IsLegal}
 use Rattle.seqpool.specs.Histories.{At, acts_of}
 use Rattle.poolsteps.specs.Views.{the_lane}
 use Rattle.seatcalls.specs.Visitors.{GuestOf, IsFree, Visits}
 use Rattle.seatcalls.specs.Endings.{Settles}
-use Rattle.seatcalls.specs.Sightings.{Found, Missed, Cleared}
+use Rattle.seatcalls.specs.Sightings.{Found, Missed, Cleared, HasPassed}
 use Rattle.shardpool.specs.declared.census.Census.{Census}
 use Rattle.shardpool.specs.Tokens.{PoolOf, LaneOf, GuestsOf}
 use Rattle.shardpool.specs.Closings.{AreAllLanes, AreGuests, Closes, ClosesWithGuests}
@@ -44,6 +45,15 @@ GuestMissedLaw = (key : ℕ) (old new : GuestOf) → IsPrefix old.book.seen new.
 abbrev pub GuestMarksOnceLaw : Type 0
 GuestMarksOnceLaw = (key : ℕ) (old new : GuestOf) (marked : Bool) → IsPrefix old.book.seen new.book.seen → IsCleared old.book.seen key
     → (IsTrue marked → Cleared key old new) → marked ≡ false
+
+-- where a key's place has gone on, what was published under the key is cleared
+abbrev pub PassedGoneLaw : Type 0
+PassedGoneLaw = (z : Shape) (history : List Act) (key : ℕ) → IsLegal z history → HasPassed z history key → IsGone history history key
+
+-- a guest that has seen the key's place go on doesn't find the key any more
+abbrev pub GuestPassedLaw : Type 0
+GuestPassedLaw = (key : ℕ) (old new : GuestOf) → IsPrefix old.book.seen new.book.seen → IsLegal old.shape new.book.seen
+    → HasPassed old.shape old.book.seen key → Found key old new → ⊥
 
 -- ---- which keys guests cleared
 

@@ -11,6 +11,7 @@ use Rattle.seqpool.specs.Histories.{At, PublishedAt, acts_of}
 use Rattle.poolsteps.specs.declared.view.View.{View}
 use Rattle.poolsteps.specs.Views.{the_lane}
 use Rattle.poolsteps.specs.Shares.{room_of}
+use Rattle.seatcalls.specs.Sightings.{HasPassed}
 use Rattle.shardpool.specs.declared.census.Census.{Census}
 use Rattle.shardpool.specs.declared.create.CreateFault.{CreateFault}
 use Rattle.shardpool.specs.Tokens.{PoolOf, LaneOf, FillingOf, RefOf}
@@ -70,6 +71,11 @@ MissedLaw = (key : ℕ) (old new : LaneOf) → IsPrefix old.book.seen new.book.s
 abbrev pub MarksOnceLaw : Type 0
 MarksOnceLaw = (key : ℕ) (old new : LaneOf) (marked : Bool) → IsPrefix old.book.seen new.book.seen → IsCleared old.book.seen key
     → (IsTrue marked → ClearedSince key old new) → marked ≡ false
+
+-- a lane that has seen the key's place go on doesn't find the key any more
+abbrev pub PassedLaw : Type 0
+PassedLaw = (key : ℕ) (old new : LaneOf) → IsPrefix old.book.seen new.book.seen → IsLegal old.shape new.book.seen
+    → HasPassed old.shape old.book.seen key → FoundSince key old new → ⊥
 
 -- ---- which keys lanes cleared
 

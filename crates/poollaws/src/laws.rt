@@ -1,5 +1,5 @@
 //! The laws, as calls that do nothing: whoever calls one may use its law in a proof.
-ghost use Rattle.poollaws.specs.Laws.{StandsLaw, StaysPublishedLaw, StaysClearedLaw, KeyLaw, OwnActsLaw, GoneLaw, UnfoundLaw, MissedLaw, MarksOnceLaw, NoneClearedLaw, KeyClearedLaw, ClearedOnceLaw, EndLaw, LastLaw, CountedLaw, NoneLeftLaw, ClearerLaw, FirstRoomLaw, LessRoomLaw, KeptRoomLaw, ToldRoomLaw, HeardRoomLaw, ReusedRoomLaw, OwnerLaw};
+ghost use Rattle.poollaws.specs.Laws.{StandsLaw, StaysPublishedLaw, StaysClearedLaw, KeyLaw, OwnActsLaw, GoneLaw, UnfoundLaw, MissedLaw, MarksOnceLaw, PassedLaw, NoneClearedLaw, KeyClearedLaw, ClearedOnceLaw, EndLaw, LastLaw, CountedLaw, NoneLeftLaw, ClearerLaw, FirstRoomLaw, LessRoomLaw, KeptRoomLaw, ToldRoomLaw, HeardRoomLaw, ReusedRoomLaw, OwnerLaw};
 
 use shardpool::room_law;
 use slotcell::Clear;
@@ -24,12 +24,13 @@ pub fn own_acts_law()
 
 /// No get behind a clear of its key finds it: neither in a longer history, nor by a lane that has seen the clear. And a
 /// call of a lane that finds nothing comes behind a clear of the key, if the lane saw it published. A second clear marks
-/// nothing.
+/// nothing. And a lane that has seen the key's place go on, as `Pool::is_gone` tells, finds the key no more.
 pub fn gone_law()
     ensures gone { GoneLaw }
     ensures unfound { UnfoundLaw }
     ensures missed { MissedLaw }
     ensures marks { MarksOnceLaw }
+    ensures passed { PassedLaw }
 {}
 
 /// Which keys a lane cleared: those of its clears that answered true, each once. None of its other calls clears a key.

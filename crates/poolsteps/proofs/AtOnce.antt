@@ -1,4 +1,4 @@
--- Several steps of a clear in one operation, through the table: each step where it may be made, one after another, and the exchange that is all of them.
+-- Several steps of a clear, or of a filling that is dropped, in one operation, through the table: each step where it may be made, one after another, and the exchange that is all of them.
 use Rattle.poolsteps.specs.Spot.{Spot as CellSpot}
 use mathlib.Core.Logic.{dite}
 use native.Mathlib.Decide.{ℕ_discrete}
@@ -24,13 +24,15 @@ use Rattle.poolsteps.specs.declared.view.LaneRecord.{LaneRecord}
 use Rattle.poolsteps.specs.declared.view.View.{View}
 use Rattle.poolsteps.specs.Layout.{index_in, words_in}
 use Rattle.poolsteps.specs.Rule.{Kept}
-use Rattle.poolsteps.specs.Views.{the_lane, head_record, IsOne}
-use Rattle.poolsteps.specs.Told.{GoesOn, EntersClear, Marks, Leaves, Claims, Sees, IsIdle}
-use Rattle.poolsteps.specs.AtOnce.{unreferred, MakesSweep, MakesStrike, MakesMiss, Sweeps, Strikes}
+use Rattle.poolsteps.specs.declared.view.Stored.{Stored}
+use Rattle.poolsteps.specs.Views.{the_lane, head_record, known_of, IsOne}
+use Rattle.poolsteps.specs.Told.{GoesOn, EntersClear, Publishes, Marks, Leaves, Claims, Sees, IsIdle, MayPublish, IsShared}
+use Rattle.poolsteps.specs.AtOnce.{unreferred, unpublished, MakesSweep, MakesStrike, MakesMiss, MakesWithdraw, Sweeps, Strikes, Withdraws}
 use Rattle.poolsteps.proofs.LayoutLemmas.{index-below, value-is}
 use Rattle.poolsteps.proofs.Making.{moment_of, life-allows}
 use Rattle.poolsteps.proofs.SeatLemmas.{is-at}
 use Rattle.poolsteps.proofs.Entering.{enter-makes}
+use Rattle.poolsteps.proofs.Publishing.{publish-makes}
 use Rattle.poolsteps.proofs.Marking.{mark-makes}
 use Rattle.poolsteps.proofs.Leaving.{leave-makes}
 use Rattle.poolsteps.proofs.Claiming.{claim-makes}
@@ -282,3 +284,60 @@ module _ {T : Type 0} (content : T → List ℕ) (room : T → ℕ) (spots : ℕ
       (misses s word at small miss))
       (cases_Bool (owes_claim (word + 4))))
       (cases_Bool (is_hit key word)))
+
+-- ---- WITHDRAW
+
+module _ {T : Type 0} (content : T → List ℕ) (room : T → ℕ) (spots : ℕ → CellSpot) (z : Shape) (slots id : ℕ) (me : Me (Option (Share T)) View) (one : IsOne me.0)
+    (key : ℕ) (may : MayPublish z me.0 key) (shares : IsShared z me.0 (place_of key) false) where
+  abbrev Seat : Type 0
+  Seat = Me (Option (Share T)) View
+
+  abbrev Board : Type 0
+  Board = State (Option (Share T)) View
+
+  abbrev word_index : ℕ
+  word_index = index_in z (Life (place_of key))
+
+  abbrev Rules : Board → Type 0
+  Rules = Kept content room spots z
+
+  -- the cell that the lane knows there
+  abbrev known : Stored
+  known = known_of (the_lane me.0) (place_of key)
+
+  -- what may be published is a key
+  is-good : is_key z key ≡ true
+  is-good = (and_parts (is_key z key) _ may.current).0
+
+  publishes : (s : Board) → Stood Rules id word_index slots s me (unpublished (generation_of key))
+      → Comes Rules id word_index s me (unreferred (generation_of key)) (Publishes z key known false me (unpublished (generation_of key)))
+  publishes s at =
+      let first : ℕ = unpublished (generation_of key) in
+      let below = generation_of-lt key in
+      let small : first < 18446744073709551616 = omega arith in
+      let leaves : (first + 1) % 2 ^ 64 ≡ unreferred (generation_of key) = omega arith in
+      let inside = (key_parts z key is-good).place in
+      comes-of Rules id word_index at (λ n. (n + 1) % 2 ^ 64) (Publishes z key known false me)
+      (life-allows content room spots z slots id me one (place_of key) inside (λ n. (n + 1) % 2 ^ 64) (Publishes z key known false me)
+      (λ words w homes point here low. publish-makes content room spots z words w homes point me key known false here inside may shares (inl refl) low))
+      small (unreferred (generation_of key)) leaves
+
+  withdraws : (new : ℕ) → (generation_of key ≤ z.last_generation → new ≡ claim_gives z.last_generation (generation_of key) (claimable (generation_of key)))
+      → (s : Board) → Stood Rules id word_index slots s me (unpublished (generation_of key)) → Comes Rules id word_index s me new (MakesWithdraw z key me)
+  withdraws new gives s at =
+      comes-next Rules id word_index at (unreferred (generation_of key)) new (Publishes z key known false me (unpublished (generation_of key))) (MakesSweep z key)
+      (publishes s at)
+      (λ next published there told.
+      sweeps content room spots z slots id published (lone told.goes) key is-good (under-now told.goes) new gives next there)
+
+  pub withdraw-allows : (new : ℕ) → (generation_of key ≤ z.last_generation → new ≡ claim_gives z.last_generation (generation_of key) (claimable (generation_of key)))
+      → Allows Rules slots id me word_index (λ word. either (word == unpublished (generation_of key)) new word) (Withdraws z key me)
+  withdraw-allows new gives =
+      let first : ℕ = unpublished (generation_of key) in
+      exchanges content room spots z slots id me one key is-good may.idle first new (Withdraws z key me)
+      (λ s at small. told-more content room spots z slots id me one key is-good may.idle s new (MakesWithdraw z key me) (Withdraws z key me first)
+      (λ after made. (λ found. made, λ other. absurd (other refl)))
+      (withdraws new gives s at))
+      (λ s word at small other. told-more content room spots z slots id me one key is-good may.idle s word (Sees z me) (Withdraws z key me word)
+      (λ after sees. (λ same. absurd (other same), λ unequal. sees))
+      (looks content room spots z slots id me one key is-good may.idle s word at small))

@@ -12,7 +12,7 @@ use Rattle.poolsteps.specs.declared.grid.Grid.{Grid}
 use Rattle.poolsteps.specs.declared.view.View.{View}
 use Rattle.poolsteps.specs.Rule.{Kept, first_records, first_view}
 use Rattle.poolsteps.specs.Seats.{without_first, first_alone}
-use Rattle.poolsteps.specs.Grids.{IsOf, SameSeat, IsFirstHand, AreFirstHands}
+use Rattle.poolsteps.specs.Grids.{IsOf, SameSeat, IsFirstHand, AreFirstHands, IsUndealt}
 use Rattle.poolsteps.proofs.ViewLemmas.{times-split, in-first, in-others, entry-of}
 use Rattle.poolsteps.proofs.Joints.{cut}
 
@@ -77,6 +77,12 @@ module _ {T : Type 0} (grid : Grid T) where
             (entry-of hands hand entry lane (ap (λ (list : List (Hand T)). slice_get list lane) (sym longer) ∙ is));
       }
 
-  -- all lanes are
-  pub all-dealt : (dealt : ℕ) (seat : Hand T) (hands : List (Hand T)) → AreDealt dealt seat hands → dealt ≡ (callers grid.shape) → AreFirstHands grid hands
-  all-dealt dealt seat hands are all = record { count = are.count ∙ all; each = are.each }
+  -- the lanes are, and the seat has the guests
+  pub all-dealt : (dealt : ℕ) (seat : Hand T) (hands : List (Hand T)) → AreDealt dealt seat hands → dealt ≡ grid.shape.lanes
+      → AreFirstHands grid hands × IsUndealt grid grid.shape.lanes grid.shape.guests seat
+  all-dealt dealt seat hands are end =
+      let all = are.all in
+      let rest : are.more ≡ grid.shape.guests = omega (arith, all, end) in (
+        record { count = are.count ∙ end; each = are.each },
+        (are.seat_of, are.rest ∙ (λ i. (first_lanes_view (end i) (rest i), []))),
+      )

@@ -1,6 +1,6 @@
 -- One hand takes in all others, and at the end it knows what each of them knew.
 use Rattle.poolsteps.specs.Layout.{spots_at}
-use Rattle.std.proofs.Common.{◌≡◌, ◌⊎◌, inl, inr, ⊎_elim, ℕ, zero, suc, List, [], ◌∷◌, ◌++◌, length, slice_get, Option, Some, refl, ap, sym, ◌∙◌, subst}
+use Rattle.std.proofs.Common.{◌≡◌, ◌⊎◌, inl, inr, ⊎_elim, ℕ, zero, suc, List, [], ◌∷◌, ◌++◌, length, slice_get, Option, Some, ap, sym, ◌∙◌, subst}
 use Rattle.std.specs.List.{All}
 use Rattle.std.proofs.lemmas.List.Elements.{All-head, All-tail}
 use Rattle.atomic_table.specs.declared.shared.Seat.{Seat}
@@ -10,7 +10,7 @@ use Rattle.poolsteps.specs.declared.grid.Grid.{Grid}
 use Rattle.poolsteps.specs.declared.view.LaneRecord.{LaneRecord}
 use Rattle.poolsteps.specs.declared.view.View.{View}
 use Rattle.poolsteps.specs.declared.view.Heard.{Heard}
-use Rattle.poolsteps.specs.Views.{the_lane, IsOne, In}
+use Rattle.poolsteps.specs.Views.{In}
 use Rattle.poolsteps.specs.Rule.{World, IsBeginning, HasSeen, Stands, Kept}
 use Rattle.poolsteps.specs.Seats.{heard_of, both_of}
 use Rattle.poolsteps.specs.Grids.{IsOf, SameSeat, AreHands, EndsWith}
@@ -74,7 +74,7 @@ module _ {T : Type 0} (grid : Grid T) (hands : List (Seat (Option (Share T)) Vie
         let of : slice_get hands (length left) ≡ Some last = ap (λ (list : List (Seat S View)). slice_get list (length left)) is ∙ entry-last left last in
         let own = are.each (length left) last of in record {
           seat_of = own.0;
-          empty = own.2;
+          empty = own.1;
           among = λ index hand at. (index, ap (λ (list : List (Seat S View)). slice_get list index) is ∙ entry-before left last hand index at);
           each = λ index hand at. ⊎_elim
               (λ (there : slice_get left index ≡ Some hand). inr (index, there))
@@ -86,7 +86,7 @@ module _ {T : Type 0} (grid : Grid T) (hands : List (Seat (Option (Share T)) Vie
     pub next-hand : (seat hand : Seat S View) (left more : List (Seat S View)) → AreGathered seat left → left ≡ hand ∷ more → IsOf grid hand × (hand.me.1 ≡ [])
     next-hand seat hand left more gathered is =
         let among = gathered.among 0 hand (ap (λ (list : List (Seat S View)). slice_get list 0) is) in
-        let own = are.each among.0 hand among.1 in (own.0, own.2)
+        let own = are.each among.0 hand among.1 in (own.0, own.1)
 
     -- it is taken in
     pub more-gathered : (seat after hand : Seat S View) (left more : List (Seat S View)) → AreGathered seat left → left ≡ hand ∷ more → SameSeat seat after
@@ -133,8 +133,7 @@ module _ {T : Type 0} (grid : Grid T) (hands : List (Seat (Option (Share T)) Vie
             seen = λ index hand at. (begins index hand at).acts;
             rooms = λ index hand at. (begins index hand at).rooms;
             paired = λ index hand at. (begins index hand at).paired;
-            records = λ index hand at. stands.seats.records (the_lane hand.me.0)
-                (seat.id, seat.me.0, at_end, (known index hand at).lanes (the_lane hand.me.0) (own-lane hand (are.each index hand at).1));
+            records = λ index hand r at among. stands.seats.records r (seat.id, seat.me.0, at_end, (known index hand at).lanes r among);
           },
         )
       where
@@ -143,6 +142,3 @@ module _ {T : Type 0} (grid : Grid T) (hands : List (Seat (Option (Share T)) Vie
             (λ (there : (at : ℕ) × (slice_get left at ≡ Some hand)).
             absurd (cc (ap (λ (list : List (Seat S View)). slice_get list there.0) (sym none) ∙ there.1)))
             (gathered.each index hand at)
-
-        own-lane : (hand : Seat S View) → IsOne hand.me.0 → In (the_lane hand.me.0) hand.me.0.lanes
-        own-lane hand one = subst (In (the_lane hand.me.0)) (sym one) (inl refl)

@@ -3,16 +3,17 @@ use mathlib.Core.List.{IsPrefix}
 use mathlib.Core.Option as maybe
 use lib.ListN.{get_elem?}
 use Rattle.poolsteps.specs.Share.{Share}
-use Rattle.poolsteps.specs.Rule.{World, IsRecord, Stands}
+use Rattle.poolsteps.specs.Rule.{World, IsRecord, Stands, first_records}
 use Rattle.std.specs.Prelude.{◌≡◌, ◌<◌, ℕ, true, List, [], ◌∷◌, length, slice_get, Option, Some}
 use Rattle.atomic_table.specs.declared.shared.Seat.{Seat}
 use Rattle.keybits.specs.declared.shape.Shape.{Shape}
-use Rattle.keybits.specs.Shapes.{callers, is_place}
+use Rattle.keybits.specs.Shapes.{is_place}
 use Rattle.poolsteps.specs.declared.grid.Spot.{Spot}
 use Rattle.poolsteps.specs.declared.grid.Grid.{Grid}
 use Rattle.poolsteps.specs.declared.view.View.{View}
 use Rattle.poolsteps.specs.Layout.{slot_start, spots_at}
-use Rattle.poolsteps.specs.Views.{first_record, the_lane, IsOne}
+use Rattle.poolsteps.specs.Views.{first_record, In}
+use Rattle.poolsteps.specs.declared.view.LaneRecord.{LaneRecord}
 
 -- the spot is that of this place of the shape
 pub record IsSpot (z : Shape) (spot : Spot) (place : ℕ) : Type 0 where
@@ -35,16 +36,20 @@ IsFirstHand grid lane hand = IsOf grid hand
 
 -- these are the hands of all lanes of the grid, by rising number, before their first steps
 pub record AreFirstHands {T : Type 0} (grid : Grid T) (hands : List (Seat (Option (Share T)) View)) : Type 0 where
-  pub count : length hands ≡ (callers grid.shape)
+  pub count : length hands ≡ grid.shape.lanes
   pub each : (lane : ℕ) (hand : Seat (Option (Share T)) View) → slice_get hands lane ≡ Some hand → IsFirstHand grid lane hand
 
--- these are hands of the grid, at least one
+-- the hand of so many callers of the grid from this number on, before their first steps
+abbrev pub IsUndealt : {T : Type 0} → Grid T → ℕ → ℕ → Seat (Option (Share T)) View → Type 0
+IsUndealt grid from count hand = IsOf grid hand
+    × (hand.me ≡ (record { lanes = first_records from count; seen = []; rooms = []; told = []; steps = 0; looks = 0 }, []))
+
+-- these are hands of the grid, at least one, each of one caller or of several
 pub record AreHands {T : Type 0} (grid : Grid T) (hands : List (Seat (Option (Share T)) View)) : Type 0 where
   pub some_hand : 0 < length hands
-  pub each : (index : ℕ) (hand : Seat (Option (Share T)) View) → slice_get hands index ≡ Some hand → IsOf grid hand × IsOne hand.me.0
-      × (hand.me.1 ≡ [])
+  pub each : (index : ℕ) (hand : Seat (Option (Share T)) View) → slice_get hands index ≡ Some hand → IsOf grid hand × (hand.me.1 ≡ [])
 
--- the rule holds of these last words and slots with this world, whose history begins with what each hand saw, with the rooms beside it, and has just the acts of its lane
+-- the rule holds of these last words and slots with this world, whose history begins with what each hand saw, with the rooms beside it, and has just the acts of its callers
 pub record EndsWith {T : Type 0} (content : T → List ℕ) (room : T → ℕ) (grid : Grid T) (hands : List (Seat (Option (Share T)) View))
     (words : List ℕ) (slots : List (Option (Share T))) (w : World) : Type 0 where
   -- the slots that no hand has
@@ -57,5 +62,5 @@ pub record EndsWith {T : Type 0} (content : T → List ℕ) (room : T → ℕ) (
   pub rooms : (index : ℕ) (hand : Seat (Option (Share T)) View) → slice_get hands index ≡ Some hand → IsPrefix hand.me.0.rooms w.kept
   pub paired : (index : ℕ) (hand : Seat (Option (Share T)) View) → slice_get hands index ≡ Some hand
       → length hand.me.0.rooms ≡ length hand.me.0.seen
-  pub records : (index : ℕ) (hand : Seat (Option (Share T)) View) → slice_get hands index ≡ Some hand
-      → IsRecord grid.shape w (the_lane hand.me.0)
+  pub records : (index : ℕ) (hand : Seat (Option (Share T)) View) (r : LaneRecord) → slice_get hands index ≡ Some hand
+      → In r hand.me.0.lanes → IsRecord grid.shape w r

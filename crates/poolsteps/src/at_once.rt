@@ -1,18 +1,19 @@
-//! Several steps of a clear, one after another with nothing between them, as one operation on the key's word.
-ghost use Rattle.std.specs.Prelude.{◌≡◌, true};
+//! Several steps of a clear, or of a filling that is dropped, one after another with nothing between them, as one operation on
+//! the key's word.
+ghost use Rattle.std.specs.Prelude.{◌≡◌, true, false};
 ghost use Rattle.keybits.specs.Keys.{place_of, is_key};
 ghost use Rattle.keybits.specs.Words.{is_hit};
 ghost use Rattle.poolsteps.specs.Views.{IsOne};
 ghost use Rattle.poolsteps.specs.Grids.{IsSpot, IsOf, SameSeat};
-ghost use Rattle.poolsteps.specs.Told.{IsIdle};
-ghost use Rattle.poolsteps.specs.AtOnce.{Sweeps, Strikes};
+ghost use Rattle.poolsteps.specs.Told.{IsIdle, MayPublish, IsShared};
+ghost use Rattle.poolsteps.specs.AtOnce.{Sweeps, Strikes, Withdraws};
 
 use crate::find::LIVES_START;
 use crate::grid::{Grid, Hand, Spot};
 use crate::steps::Aim;
 use crate::view::View;
 use atomic_table::Play;
-use keybits::{MARK_BIT, claimable, claimed, generation_of};
+use keybits::{MARK_BIT, PUBLISHED_BIT, claimable, claimed, generation_of};
 use slotcell::Clear;
 use std::marker::{Brand, PhantomData};
 
@@ -36,6 +37,17 @@ impl<S, J: Aim> Play<S, View> for Strike<J> {
     ghost use Rattle.poolsteps.specs.AtOnce.{Strikes};
 
     ghost then = { λ step before found after. Strikes J.shape J.key step.first before found after };
+}
+
+/// WITHDRAW.
+pub(crate) struct Withdraw<J: Aim> {
+    of: PhantomData<J>,
+}
+
+impl<S, J: Aim> Play<S, View> for Withdraw<J> {
+    ghost use Rattle.poolsteps.specs.AtOnce.{Withdraws};
+
+    ghost then = { λ step before found after. Withdraws J.shape J.key before found after };
 }
 
 impl<T: Clear> Grid<T> {
@@ -108,6 +120,41 @@ impl<T: Clear> Grid<T> {
             LIVES_START + spot.start as usize,
             expected,
             expected.wrapping_add(MARK_BIT),
+        )
+    }
+
+    /// WITHDRAW: where a key isn't published and no ENTER is counted at its place, its PUBLISH without a reference, and the
+    /// ENTER, MARK, LEAVE and CLAIM of its clear, by one compare-exchange: nobody ever finds the key, and it isn't given out
+    /// again. The place is with the lane, and each share of its cell is in its slot. Where it finds another word, it
+    /// changes nothing and was a look. Answers the word that was found.
+    #[inline]
+    pub fn withdraw(&self, hand: &mut Hand<T>, spot: Spot, key: u64) -> u64
+        requires hand { IsOf self.now hand.old × IsOne hand.old.me.0 }
+        requires spot { IsSpot self.now.shape spot (place_of key) }
+        requires may { MayPublish self.now.shape hand.old.me.0 key }
+        requires shares { IsShared self.now.shape hand.old.me.0 (place_of key) false }
+        ensures hand { SameSeat hand.old hand.new }
+        ensures withdraws { Withdraws self.now.shape key hand.old.me result hand.new.me }
+    {
+        self.withdraw_as::<Brand>(hand, spot, key)
+    }
+
+    #[inline]
+    fn withdraw_as<J: Aim>(&self, hand: &mut Hand<T>, spot: Spot, key: u64) -> u64
+        requires aim { (J.shape ≡ self.now.shape) × (J.key ≡ key) }
+        requires hand { IsOf self.now hand.old × IsOne hand.old.me.0 }
+        requires spot { IsSpot self.now.shape spot (place_of key) }
+        requires may { MayPublish self.now.shape hand.old.me.0 key }
+        requires shares { IsShared self.now.shape hand.old.me.0 (place_of key) false }
+        ensures hand { SameSeat hand.old hand.new }
+        ensures withdraws { Withdraws self.now.shape key hand.old.me result hand.new.me }
+    {
+        let marked = claimable(generation_of(key));
+        self.table.shared.compare_exchange::<Withdraw<J>>(
+            hand,
+            LIVES_START + spot.start as usize,
+            marked - MARK_BIT - PUBLISHED_BIT,
+            claimed(marked, self.shape.last_generation),
         )
     }
 }

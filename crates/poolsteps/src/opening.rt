@@ -4,7 +4,7 @@ ghost use Rattle.keybits.specs.declared.step.Word.TheVariants as words;
 ghost use Rattle.keybits.specs.Shapes.{IsShape};
 ghost use Rattle.poolsteps.specs.Rule.{first_view};
 ghost use Rattle.poolsteps.specs.Seats.{without_first, first_alone};
-ghost use Rattle.poolsteps.specs.Grids.{IsOf, SameSeat, AreFirstHands};
+ghost use Rattle.poolsteps.specs.Grids.{IsOf, SameSeat, AreFirstHands, IsUndealt};
 
 use crate::cells::Base;
 use crate::grid::{Board, Grid, Hand};
@@ -27,18 +27,24 @@ impl Split<View> for Deal {
 }
 
 impl<T: Clear> Grid<T> {
-    /// The table of a pool of this shape, and the hand of each lane, by rising number. None where memory was refused.
-    pub fn new(alloc: Global, shape: &Shape, objects: Base<T>) -> Option<(Grid<T>, Vec<Hand<T>>)>
+    /// The table of a pool of this shape, the hand of each lane, by rising number, and one of all guests, from which theirs
+    /// are dealt. None where memory was refused.
+    pub fn new(
+        alloc: Global,
+        shape: &Shape,
+        objects: Base<T>,
+    ) -> Option<(Grid<T>, Vec<Hand<T>>, Hand<T>)>
         requires { IsShape shape.now }
         ensures shape { IfSome result (λ made. (made.0.shape ≡ shape.now) × (made.0.objects ≡ objects)) }
         ensures hands { IfSome result (λ made. AreFirstHands made.0 made.1.items) }
+        ensures guests { IfSome result (λ made. IsUndealt made.0 shape.now.lanes shape.now.guests made.2) }
     {
-        let mut hands = Vec::with_capacity(alloc, (shape.lanes + shape.guests) as usize).ok()?;
+        let mut hands = Vec::with_capacity(alloc, shape.lanes as usize).ok()?;
         let (grid, mut seat) = Grid::undealt(alloc, *shape, objects)?;
-        for _ in 0..shape.lanes + shape.guests {
+        for _ in 0..shape.lanes {
             hands.push_reserved(grid.deal(&mut seat));
         }
-        Some((grid, hands))
+        Some((grid, hands, seat))
     }
 
     /// The table of a pool of this shape, and the seat of all its lanes. None where memory was refused.
@@ -67,8 +73,8 @@ impl<T: Clear> Grid<T> {
         Some((grid, seat))
     }
 
-    /// The seat of the first lane of a seat of several.
-    fn deal(&self, seat: &mut Hand<T>) -> Hand<T>
+    /// The hand of the first caller of a hand of several, which keeps the others.
+    pub fn deal(&self, seat: &mut Hand<T>) -> Hand<T>
         requires { IsOf self.now seat.old }
         ensures lane { IsOf self.now result × (result.me ≡ (first_alone seat.old.me.0, [])) }
         ensures rest { SameSeat seat.old seat.new × (seat.new.me ≡ (without_first seat.old.me.0, seat.old.me.1)) }

@@ -6,6 +6,8 @@ pub mod contents;
 #[cfg(test)]
 mod test_calls;
 #[cfg(test)]
+mod test_discards;
+#[cfg(test)]
 mod test_drops;
 #[cfg(test)]
 mod test_guards;

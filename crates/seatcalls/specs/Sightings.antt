@@ -1,7 +1,10 @@
 -- What a guest's call shows of its key: where its act stands in the history that the guest has then seen.
 use Rattle.std.specs.Prelude.{ℕ, ◌<◌, ◌≤◌, true, List, length, Some}
+use Rattle.keybits.specs.declared.shape.Shape.{Shape}
+use Rattle.keybits.specs.Keys.{place_of, generation_of}
 use Rattle.seqpool.specs.declared.act.Act.{Act}
 use Rattle.seqpool.specs.declared.act.Act.TheVariants.{Get, Clear}
+use Rattle.seqpool.specs.Pool.{pool_after}
 use Rattle.seqpool.specs.Histories.{At, PublishedAt, ClearedAt, MissedAt, IsPresentAt}
 use Rattle.seatcalls.specs.Visitors.{GuestOf}
 
@@ -30,3 +33,7 @@ pub record Cleared (key : ℕ) (old new : GuestOf) : Type 0 where
   pub clear : StandsBehind (Clear old.number key true) old new
   pub content : List ℕ
   pub present : IsPresentAt new.book.seen clear.position key content
+
+-- the key's place has gone on to a later generation: no get finds the key any more
+abbrev pub HasPassed : Shape → List Act → ℕ → Type 0
+HasPassed z history key = generation_of key < (pool_after z history (place_of key)).generation

@@ -13,19 +13,19 @@ ghost use Rattle.seatcalls.specs.Visitors.{Visits, HasClaimedPlace};
 
 use crate::cell_moves::{rest_cell, take_cell};
 use crate::guests::Guest;
+use crate::kept_snapshot::KeptSnapshot;
 use keybits::Shape;
 use poolsteps::{Base, Grid, Hand, Spot, Whole, shares_law};
 use slotcell::Clear;
 use std::alloc::Global;
 use std::marker::Model;
 use std::mem;
-use std::snapshot::Snapshot;
 
 /// A place that a guest claimed, with its object, which nobody else reaches. It must be given back.
 pub struct Claimed<T> {
     hand: Hand<T>,
     number: u32,
-    shape: Snapshot<Shape>,
+    shape: KeptSnapshot<Shape>,
     spot: Spot,
     generation: u32,
     directory: Base<T>,
@@ -50,8 +50,8 @@ impl<T> Model for Claimed<T> {
       object = c.whole.object;
     } };
 
-    ghost invariant = { λ c. (c.hand.me.1 ≡ []) × IsSpot c.shape.value c.spot c.spot.place × IsAt c.whole.spot c.directory.ptr c.spot.start
-        × AreEmptied c.shape.value (the_lane c.hand.me.0) c.spot.place
+    ghost invariant = { λ c. (c.hand.me.1 ≡ []) × IsSpot c.shape.value c.spot c.spot.place
+        × IsAt c.whole.spot c.directory.ptr c.spot.start × AreEmptied c.shape.value (the_lane c.hand.me.0) c.spot.place
         × HasClaimedPlace c.shape.value c.hand.me.0 c.number c.spot.place c.generation };
 }
 
@@ -111,7 +111,7 @@ pub(crate) fn keep<T: Clear + Drop>(
     grid: &Grid<T>,
     hand: Hand<T>,
     number: u32,
-    shape: Snapshot<Shape>,
+    shape: KeptSnapshot<Shape>,
     spot: Spot,
     generation: u32,
 ) -> Claimed<T>

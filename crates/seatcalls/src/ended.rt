@@ -9,11 +9,11 @@ ghost use Rattle.seatcalls.specs.Endings.{Ends};
 use crate::at::owed_by;
 use crate::claimed::{Claimed, keep};
 use crate::guests::Guest;
+use crate::kept_snapshot::KeptSnapshot;
 use keybits::{Shape, claimable};
 use poolsteps::{Grid, Hand, Spot};
 use slotcell::Clear;
 use std::alloc::Global;
-use std::snapshot::Snapshot;
 
 /// What a guest has after a call.
 pub enum Ended<T: Clear> {
@@ -30,7 +30,9 @@ impl<T: Clear + Drop> Ended<T> {
     ghost use Rattle.seatcalls.specs.Guests.{given_acts};
     ghost use Rattle.seatcalls.specs.Visitors.{GuestOf, ClaimedOf, Visits};
 
-    /// The guest, once the object of a place that it claimed was cleared in place, and the place given back.
+    /// The guest, once the object of a place that it claimed was cleared in place, and the place given back. Inlined, for
+    /// most calls claim none.
+    #[inline(always)]
     pub fn settle(self, grid: &Grid<T>, alloc: Global) -> Guest<T>
         requires table { (claimed : ClaimedOf T) → self ≡ Kept claimed → claimed.guest.table ≡ grid.now.table.shared.table_id }
         requires grid { (claimed : ClaimedOf T) → self ≡ Kept claimed
@@ -58,7 +60,7 @@ pub(crate) fn end<T: Clear + Drop>(
     grid: &Grid<T>,
     hand: Hand<T>,
     number: u32,
-    shape: Snapshot<Shape>,
+    shape: KeptSnapshot<Shape>,
     spot: Spot,
     found: u64,
 ) -> Ended<T>

@@ -2,11 +2,11 @@
 ghost use Rattle.std.specs.Prelude.{◌≡◌, ◌<◌, []};
 ghost use Rattle.poolsteps.specs.Grids.{IsFirstHand};
 
+use crate::kept_snapshot::KeptSnapshot;
 use keybits::Shape;
 use poolsteps::{Grid, Hand};
 use slotcell::Clear;
 use std::marker::Model;
-use std::snapshot::Snapshot;
 
 /// A caller that owns no shard: it gets, reads, releases and clears. It has at most one reference, with which it travels,
 /// and makes one call at a time; it may go from thread to thread between two of them.
@@ -14,7 +14,7 @@ use std::snapshot::Snapshot;
 pub struct Guest<T: Clear> {
     pub(crate) hand: Hand<T>,
     pub(crate) number: u32,
-    pub(crate) shape: Snapshot<Shape>,
+    pub(crate) shape: KeptSnapshot<Shape>,
 }
 
 impl<T: Clear> Model for Guest<T> {
@@ -44,7 +44,7 @@ impl<T: Clear> Guest<T> {
         Guest {
             hand,
             number,
-            shape: Snapshot::of(&grid.shape),
+            shape: KeptSnapshot::of(&grid.shape),
         }
     }
 

@@ -10,11 +10,14 @@ mod emptier;
 mod ended;
 mod guest_clear;
 mod guest_get;
+mod guest_look;
 mod guest_notes;
 mod guest_release;
 mod guests;
 mod kept_hand;
+mod kept_snapshot;
 mod references;
+mod threads;
 
 pub use at::{At, Reclaimed, owed_by};
 pub use cell_moves::{rest_cell, spread_cell, spread_others, take_cell, take_resting};

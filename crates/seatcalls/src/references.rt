@@ -1,11 +1,11 @@
 //! References of guests.
 
 use crate::kept_hand::KeptHand;
+use crate::kept_snapshot::KeptSnapshot;
 use keybits::Shape;
 use poolsteps::{Base, Slot};
 use slotcell::Clear;
 use std::marker::Model;
-use std::snapshot::Snapshot;
 
 /// A reference to a key, with the guest that has it: any thread reads the object, by no more than this, and any thread
 /// gives the reference back. One that is dropped or forgotten keeps its guest, whose pool then isn't closed.
@@ -13,7 +13,7 @@ use std::snapshot::Snapshot;
 pub struct GuestRef<T: Clear> {
     pub(crate) hand: KeptHand<T>,
     pub(crate) number: u32,
-    pub(crate) shape: Snapshot<Shape>,
+    pub(crate) shape: KeptSnapshot<Shape>,
     /// Where the key's place stands.
     pub(crate) start: u32,
     pub(crate) key: u64,

@@ -11,3 +11,4 @@ pub mod Publishes
 pub mod Releases
 pub mod Halts
 pub mod Loans
+pub mod Discards

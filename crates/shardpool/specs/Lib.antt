@@ -17,6 +17,7 @@ pub mod FirstViews
 pub mod Opened
 pub mod Creates
 pub mod AfterCalls
+pub mod Discards
 pub mod Loans
 pub mod Openings
 pub mod Gathers

@@ -1,5 +1,5 @@
 -- What a pool is when it is opened.
-use Rattle.std.specs.Prelude.{◌≡◌, ℕ, ◌+◌, ◌<◌, false, List, [], length, replicate, Option, Some, None, slice_get}
+use Rattle.std.specs.Prelude.{◌≡◌, ℕ, ◌+◌, ◌-◌, ◌<◌, false, List, [], length, replicate, Option, Some, None, slice_get}
 use Rattle.atomic_table.specs.declared.shared.Seat.{Seat}
 use Rattle.keybits.specs.ShapeFaults.{shape_fault_number}
 use Rattle.poolsteps.specs.declared.view.View.{View}
@@ -10,7 +10,7 @@ use Rattle.freelists.specs.Shards.{shape_of}
 use Rattle.slotcell.specs.declared.objects.Clear.{Ghosts}
 use Rattle.poolsteps.specs.declared.grid.Grid.{Grid}
 use Rattle.poolsteps.specs.Share.{Share}
-use Rattle.poolsteps.specs.Grids.{IsFirstHand}
+use Rattle.poolsteps.specs.Grids.{IsFirstHand, IsUndealt}
 use Rattle.seatcalls.specs.Visitors.{GuestOf}
 use Rattle.poolsteps.specs.Layout.{slot_row, shard_start}
 use Rattle.shardpool.specs.declared.pool.LaneState.{LaneState}
@@ -55,9 +55,14 @@ Deals old new (Some guest) = (old.next < callers old.shape) × IsFirstGuest old 
 
 -- ---- the parts of an open
 
--- these are the hands of the table's callers from this number on, by rising number, before their first steps
+-- this is the hand of the table's callers from this number on, before their first steps; where there are none, there is none
+abbrev pub HasUndealt : {T : Type 0} → Grid T → ℕ → Option (Seat (Option (Share T)) View) → Type 0
+HasUndealt grid next None = next ≡ callers grid.shape
+HasUndealt grid next (Some hand) = (next < callers grid.shape) × IsUndealt grid next (callers grid.shape - next) hand
+
+-- these are the hands of the table's lanes from this number on, by rising number, before their first steps
 pub record AreFurtherHands {T : Type 0} (grid : Grid T) (first : ℕ) (hands : List (Seat (Option (Share T)) View)) : Type 0 where
-  pub count : first + length hands ≡ callers grid.shape
+  pub count : first + length hands ≡ grid.shape.lanes
   pub each : (index : ℕ) (hand : Seat (Option (Share T)) View) → slice_get hands index ≡ Some hand → IsFirstHand grid (first + index) hand
 
 -- what the lane of this number keeps before it has a right to a place

@@ -1,5 +1,5 @@
 -- The hands of lanes, and what they keep.
-use Rattle.std.specs.Prelude.{◌≡◌, ℕ, ◌+◌, List, [], length, Option, Some, slice_get}
+use Rattle.std.specs.Prelude.{◌≡◌, ℕ, ◌<◌, ◌≤◌, List, [], length, Option, Some, slice_get}
 use Rattle.atomic_table.specs.declared.shared.Seat.{Seat}
 use Rattle.freelists.specs.Queues.{AreFree}
 use Rattle.poolsteps.specs.Share.{Share}
@@ -7,7 +7,7 @@ use Rattle.poolsteps.specs.declared.view.View.{View}
 use Rattle.shardpool.specs.declared.pool.LaneState.{LaneState}
 use Rattle.seatcalls.specs.Visitors.{GuestOf, IsFree}
 use Rattle.keybits.specs.Shapes.{callers}
-use Rattle.shardpool.specs.FirstViews.{first_book}
+use Rattle.poolsteps.specs.Views.{first_record, In}
 use Rattle.shardpool.specs.Tokens.{LaneOf, GuestsOf}
 use Rattle.shardpool.specs.LaneStates.{Fits}
 
@@ -39,8 +39,10 @@ pub record AreHandsOf {T : Type 0} (guests : List GuestOf) (hands : List (Seat (
   pub each : (index : ℕ) (guest : GuestOf) (hand : Seat (Option (Share T)) View) → slice_get guests index ≡ Some guest
       → slice_get hands index ≡ Some hand → (hand.table_id ≡ guest.table) × (hand.me ≡ (guest.book, [])) × IsFree guest
 
--- and these are the hands of guests that were never dealt
+-- and these are those of guests that were never dealt: one of them all, if there are any
 pub record AreUndealtHands {T : Type 0} (guests : GuestsOf) (hands : List (Seat (Option (Share T)) View)) : Type 0 where
-  pub count : guests.next + length hands ≡ callers guests.shape
-  pub each : (index : ℕ) (hand : Seat (Option (Share T)) View) → slice_get hands index ≡ Some hand → (hand.table_id ≡ guests.table)
-      × (hand.me ≡ (first_book (guests.next + index), []))
+  pub each : (index : ℕ) (hand : Seat (Option (Share T)) View) → slice_get hands index ≡ Some hand
+      → (hand.table_id ≡ guests.table) × (hand.me.1 ≡ [])
+  pub has : (number : ℕ) → guests.next ≤ number → number < callers guests.shape
+      → (index : ℕ) × (hand : Seat (Option (Share T)) View) × (slice_get hands index ≡ Some hand) × In (first_record number) hand.me.0.lanes
+      × (hand.me.0.seen ≡ [])

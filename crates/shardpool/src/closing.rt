@@ -104,13 +104,13 @@ fn with_dealt<T: Clear + Drop>(mut hands: Vec<Hand<T>>, guests: Vec<Guest<T>>) -
     hands
 }
 
-/// These hands, and behind them those of guests that were never dealt.
+/// These hands, and behind them that of the guests that were never dealt, if there are any.
 fn with_undealt<T: Clear + Drop>(mut hands: Vec<Hand<T>>, guests: Guests<T>) -> Vec<Hand<T>>
     requires { length hands.items + (callers guests.shape - guests.next) ≤ vec_capacity hands }
     ensures { (more : List (Seat (Option (Share T)) View)) × (result.items ≡ hands.items ++ more) × AreUndealtHands guests more }
 {
-    let Guests { hands: undealt, .. } = guests;
-    for hand in undealt {
+    let Guests { hand, .. } = guests;
+    if let Some(hand) = hand {
         hands.push_reserved(hand);
     }
     hands

@@ -1,5 +1,5 @@
 //! The calls of guests, by their pool.
-ghost use Rattle.std.specs.Prelude.{◌≡◌, ◌≤◌, true, false, Some, None, ◌∷◌, [], ℕ, List, IfOk, IfErr, IsTrue, IsFalse};
+ghost use Rattle.std.specs.Prelude.{◌≡◌, ◌≤◌, ◌↔◌, true, false, Some, None, ◌∷◌, [], ℕ, List, IfOk, IfErr, IsTrue, IsFalse};
 ghost use Rattle.keybits.specs.Keys.{is_key, place_of};
 ghost use Rattle.seqpool.specs.declared.act.Act.TheVariants as acts;
 ghost use Rattle.poolsteps.specs.Shares.{room_of};
@@ -7,7 +7,7 @@ ghost use Rattle.seatcalls.specs.declared.ended.Ended.TheVariants.{Free};
 ghost use Rattle.seatcalls.specs.Guests.{given_acts};
 ghost use Rattle.seatcalls.specs.Visitors.{Visits};
 ghost use Rattle.seatcalls.specs.Endings.{Ends, Settles};
-ghost use Rattle.seatcalls.specs.Sightings.{Found, Missed, Cleared};
+ghost use Rattle.seatcalls.specs.Sightings.{Found, Missed, Cleared, HasPassed};
 ghost use Rattle.shardpool.specs.Lanes.{OwnsGuest};
 
 use crate::pool::Pool;
@@ -93,6 +93,18 @@ impl<T: Clear + Drop> Pool<T> {
             → Ends T.content T.room self.now.directory (place_of key) (acts.Clear guest.number key result.0 ∷ []) 4 4 guest result.1 }
     {
         guest.clear_or_keep(&self.grid, key)
+    }
+
+    /// Whether a key is gone: its place has gone on to a later key, so no get finds it any more. So is a number that is no
+    /// key of the pool. False says no more than that the place hadn't gone on: the key may be marked. It makes a look and no
+    /// step, in front of a get that would most likely miss.
+    pub fn is_gone_by(&self, guest: &mut Guest<T>, key: u64) -> bool
+        requires owns { OwnsGuest self.now guest.old }
+        ensures outside { is_key guest.old.shape key ≡ false → (result ≡ true) × (guest.new ≡ guest.old) }
+        ensures gone { is_key guest.old.shape key ≡ true → IsTrue result ↔ HasPassed guest.old.shape guest.new.book.seen key }
+        ensures looks { is_key guest.old.shape key ≡ true → Visits [] 0 1 guest.old guest.new }
+    {
+        guest.is_gone(&self.grid, key)
     }
 
     /// Gives a claimed place back, whose object is empty and has no less room than it had when it was published: by one

@@ -1,6 +1,6 @@
 //! A sharded pool of objects that are cleared and used again in place: threads share the pool, each with a lane of its
-//! own, without a lock and in a stated number of steps. Each call has a file: `create`, `publish`, `get`, `release`,
-//! `clear`, `halt`; what two of them do at their end is in `reclaim`.
+//! own, without a lock and in a stated number of steps. Each call has a file: `create`, `publish`, `discard`, `get`,
+//! `release`, `clear`, `halt`; what two of them do at their end is in `reclaim`.
 #![tactic(auto)]
 
 mod bits;
@@ -8,6 +8,7 @@ mod census;
 mod clear;
 mod closing;
 mod create;
+mod discard;
 mod fault;
 mod gather;
 mod get;
@@ -17,6 +18,7 @@ mod halt;
 mod lane;
 mod laws;
 mod lending;
+mod looks;
 mod notes;
 mod opening;
 mod pool;

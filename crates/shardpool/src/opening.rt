@@ -1,5 +1,5 @@
 //! How a pool is opened.
-ghost use Rattle.std.specs.Prelude.{◌≡◌, ◌<◌, ◌≤◌, ◌↔◌, [], None, length, replicate, IfOk, IfSome, IsErrOf};
+ghost use Rattle.std.specs.Prelude.{◌≡◌, ◌<◌, ◌≤◌, ◌↔◌, [], None, replicate, IfOk, IfSome, IsErrOf};
 ghost use Rattle.keybits.specs.declared.shape.ShapeFault.{ShapeFault as Fault};
 ghost use Rattle.keybits.specs.declared.shape.TheConstants.{MOST_GUESTS};
 ghost use Rattle.keybits.specs.Shapes.{IsShape, IsNarrow};
@@ -7,9 +7,9 @@ ghost use Rattle.keybits.specs.ShapeFaults.{IsFirstFault, IsFirstWideFault};
 ghost use Rattle.shardpool.specs.declared.fault.OpenFault.TheVariants as faults;
 ghost use Rattle.shardpool.specs.declared.fault.GuestsFault.TheVariants as guest_faults;
 ghost use Rattle.std.specs.Vec.{vec_capacity};
-ghost use Rattle.std.specs.Vec.Iter.{into_iter_items, into_iter_len};
+ghost use Rattle.poolsteps.specs.Grids.{IsUndealt};
 ghost use Rattle.poolsteps.specs.Layout.{slot_row};
-ghost use Rattle.shardpool.specs.Opened.{first_book, AreFirstLanes, AreFirstGuests, AreFurtherHands, AreFirstParts, IsFirstState};
+ghost use Rattle.shardpool.specs.Opened.{first_book, AreFirstLanes, AreFirstGuests, AreFirstParts, IsFirstState};
 
 use crate::closing::HandRow;
 use crate::fault::{GuestsFault, OpenFault};
@@ -20,8 +20,6 @@ use keybits::{MOST_GUESTS, Shape};
 use poolsteps::{Base, Directory, Grid, Hand, Objects, shard_start, slot_row};
 use slotcell::Clear;
 use std::alloc::Global;
-use std::snapshot::Snapshot;
-use std::vec::IntoIter;
 
 /// Opens a pool of this shape, which is within the narrow limits. Its lanes stand by rising number; none has a free place
 /// yet, and no page is opened.
@@ -113,16 +111,12 @@ fn try_open<T: Clear + Drop>(
     let states = Vec::with_capacity(alloc, count).ok()?;
     let rights = Vec::with_capacity(alloc, count).ok()?;
     let mut directory = Directory::new(alloc, slot_row(&shape))?;
-    let Some((grid, parts, hands)) = parts_of(alloc, &shape, directory.base()) else {
+    let Some((grid, parts, hand)) = parts_of(alloc, &shape, directory.base()) else {
         directory.close(alloc);
         return None;
     };
     let lanes = endow(&grid, lanes, parts, &mut directory);
-    let guests = Guests {
-        hands,
-        next: shape.lanes,
-        grid: Snapshot::of(&grid),
-    };
+    let guests = Guests::all_of(&grid, hand);
     let pool = Pool {
         grid,
         directory,
@@ -133,21 +127,20 @@ fn try_open<T: Clear + Drop>(
     Some((pool, lanes, guests))
 }
 
-/// The table of a pool of this shape, whose objects stand in this directory, its lanes without their rights, and the hands
-/// of its guests. None where memory was refused.
+/// The table of a pool of this shape, whose objects stand in this directory, its lanes without their rights, and the hand
+/// of all its guests. None where memory was refused.
 fn parts_of<T: Clear + Drop>(
     alloc: Global,
     shape: &Shape,
     directory: Base<T>,
-) -> Option<(Grid<T>, Vec<Unendowed<T>>, IntoIter<Hand<T>, Global>)>
+) -> Option<(Grid<T>, Vec<Unendowed<T>>, Hand<T>)>
     requires { IsShape shape.now }
     ensures grid { IfSome result (λ made. (made.0.shape ≡ shape.now) × (made.0.objects ≡ directory)) }
     ensures parts { IfSome result (λ made. AreFirstParts made.0 made.1.items) }
-    ensures hands { IfSome result (λ made. AreFurtherHands made.0 shape.now.lanes (into_iter_items made.2)
-        × (into_iter_len made.2 ≡ length (into_iter_items made.2))) }
+    ensures guests { IfSome result (λ made. IsUndealt made.0 shape.now.lanes shape.now.guests made.2) }
 {
     let mut parts = Vec::with_capacity(alloc, shape.lanes as usize).ok()?;
-    let (grid, hands) = Grid::new(alloc, shape, directory)?;
+    let (grid, hands, guests) = Grid::new(alloc, shape, directory)?;
     let mut hands = hands.into_iter();
     for number in 0..shape.lanes {
         let Some(hand) = hands.next() else {
@@ -155,7 +148,7 @@ fn parts_of<T: Clear + Drop>(
         };
         parts.push_reserved(part_of(alloc, shape, number, hand, directory)?);
     }
-    Some((grid, parts, hands))
+    Some((grid, parts, guests))
 }
 
 /// Gives each lane the rights to the places of its shard.

@@ -17,7 +17,7 @@ use Rattle.poolsteps.specs.Layout.{words_in, shard_start, spots_at}
 use Rattle.keybits.specs.Shapes.{shard_places}
 use Rattle.poolsteps.specs.Rule.{World}
 use Rattle.poolsteps.specs.Grids.{IsOf, EndsWith}
-use Rattle.poolsteps.specs.Views.{IsOne}
+use Rattle.poolsteps.specs.Views.{the_lane}
 use Rattle.shardpool.specs.declared.pool.LaneState.{LaneState}
 use Rattle.shardpool.specs.Tokens.{LaneOf}
 use Rattle.shardpool.specs.LaneStates.{Fits}
@@ -28,7 +28,7 @@ use Rattle.shardpool.specs.Partings.{AreParted}
 use Rattle.shardpool.proofs.frame.LaneFacts.{lane_of}
 use Rattle.shardpool.proofs.at_close.RemainingShares.{may-hand-back, has-cells}
 use Rattle.shardpool.proofs.at_close.GoneGuests.{AreGone}
-use Rattle.shardpool.proofs.at_close.GuestHands.{in-front}
+use Rattle.shardpool.proofs.at_close.GuestHands.{in-front, own-lane}
 use Rattle.shardpool.proofs.at_close.LastHistory.{IsEnded, entry-at, last-are, last-history}
 
 -- a lane's state tells the same without its rows
@@ -56,7 +56,7 @@ module _ {T : Type 0} {content : T → List ℕ} {room : T → ℕ} (grid : Grid
       omega (arith, some, all, same)
 
   -- the lanes' hands are the grid's
-  pub is-hand : (index : ℕ) (hand : Seat (Option (Share T)) View) → slice_get hands index ≡ Some hand → IsOf grid hand × IsOne hand.me.0 × (hand.me.1 ≡ [])
+  pub is-hand : (index : ℕ) (hand : Seat (Option (Share T)) View) → slice_get hands index ≡ Some hand → IsOf grid hand × (hand.me.1 ≡ [])
   is-hand index hand at =
       let low = slice_get_within hands index hand at in
       let same = parted.count.0 in let wide = parted.count.1 in
@@ -64,7 +64,6 @@ module _ {T : Type 0} {content : T → List ℕ} {room : T → ℕ} (grid : Grid
       let state = entry-at states index (omega (arith, low, same, wide)) in
       let is = parted.each index lane.0 hand state.0 lane.1 at state.1 in (
         sym (ap (λ (l : LaneOf). l.table) is.lane_is) ∙ (are.owned index lane.0 lane.1).0,
-        is.fits.seat.one,
         is.empty,
       )
 
@@ -113,7 +112,7 @@ module _ {T : Type 0} {content : T → List ℕ} {room : T → ℕ} (grid : Grid
           fits = subst (λ (y : Shape). Fits content room y hand.me.0 s) shape is.fits;
           free = is.free;
           seen = ends.seen index hand (in-front hands others index hand there.1);
-          record_is = ends.records index hand (in-front hands others index hand there.1);
+          record_is = ends.records index hand (the_lane hand.me.0) (in-front hands others index hand there.1) (own-lane hand is.fits.seat.one);
         } in
         subst (λ (x : LaneOf). IsEnded content room grid.shape w x s) (sym is.lane_is) ended
 

@@ -1,5 +1,5 @@
 -- The hands of guests stand behind those of lanes when a pool is closed, and tell that all guests are gone.
-use Rattle.std.proofs.Common.{◌≡◌, ⊎_elim, ℕ, zero, suc, ◌+◌, ◌-◌, ◌<◌, ◌≤◌, List, [], ◌∷◌, ◌++◌, length, Option, Some, None, refl, sym, ap, ◌∙◌, subst, arith, length-append, slice_get}
+use Rattle.std.proofs.Common.{◌≡◌, inl, inr, ⊎_elim, ℕ, zero, suc, ◌+◌, ◌-◌, ◌<◌, ◌≤◌, List, [], ◌∷◌, ◌++◌, length, Option, Some, None, refl, sym, ap, ◌∙◌, subst, arith, length-append, slice_get}
 use Rattle.std.proofs.lemmas.Option.{slice_get_within}
 use Rattle.std.proofs.lemmas.Bool.{cond_both}
 use mathlib.Core.List.{IsPrefix}
@@ -13,13 +13,14 @@ use Rattle.seqpool.specs.Histories.{acts_of}
 use Rattle.poolsteps.specs.Share.{Share}
 use Rattle.poolsteps.specs.declared.grid.Grid.{Grid}
 use Rattle.poolsteps.specs.declared.view.View.{View}
-use Rattle.poolsteps.specs.Views.{the_lane, IsOne}
+use Rattle.seqpool.specs.declared.act.Act.{Act}
+use Rattle.poolsteps.specs.Views.{first_record, the_lane, IsOne, In}
 use Rattle.poolsteps.proofs.ViewLemmas.{entry-of}
 use Rattle.poolsteps.specs.Grids.{IsOf, EndsWith}
-use Rattle.poolsteps.specs.Rule.{World, IsRecord}
+use Rattle.poolsteps.specs.Rule.{World, IsRecord, first_records}
 use Rattle.seatcalls.specs.Visitors.{GuestOf, FitsGuest, HasNoReference, IsFree}
 use Rattle.shardpool.specs.Tokens.{GuestsOf}
-use Rattle.shardpool.specs.Opened.{first_book}
+use Rattle.shardpool.specs.Opened.{first_book, HasUndealt}
 use Rattle.shardpool.specs.Closings.{AreGuests}
 use Rattle.shardpool.specs.Partings.{AreHandsOf, AreUndealtHands}
 use Rattle.shardpool.proofs.at_close.GoneGuests.{IsGone, AreGone, guest-gone, guest-mine}
@@ -92,6 +93,50 @@ first-guest z number high low = record {
 pub first-bare : (z : Shape) (number : ℕ) → HasNoReference z (first_book number)
 first-bare z number key = cond_both {A = ℕ} (is_current z fresh key) 0 0 (λ n. n ≡ 0) (λ _. refl) (λ _. refl)
 
+-- ---- the hand of those that were never dealt
+
+in-first-records : (number from count : ℕ) → from ≤ number → number < from + count → In (first_record number) (first_records from count)
+in-first-records number from zero high low = absurd (omega (arith, high, low))
+in-first-records number from (suc more) high low = ⊎_elim
+    (λ (further : from < number). inr (in-first-records number (from + 1) more (omega (arith, further)) (omega (arith, low))))
+    (λ (here : number ≤ from). let same : number ≡ from = omega (arith, high, here) in inl (ap first_record same))
+    (cases_lt from number)
+
+pub none-undealt : {T : Type 0} (guests : GuestsOf) → guests.next ≡ callers guests.shape → AreUndealtHands {T = T} guests []
+none-undealt guests all = record {
+  each = λ index hand at. let nowhere : None ≡ Some hand = at in absurd (cc nowhere);
+  has = λ number high low. absurd (omega (arith, all, high, low));
+}
+
+pub all-undealt : {T : Type 0} (grid : Grid T) (guests : GuestsOf) (hand : Seat (Option (Share T)) View) → guests.table ≡ grid.table.shared.table_id → guests.shape ≡ grid.shape
+    → HasUndealt grid guests.next (Some hand) → AreUndealtHands guests (hand ∷ [])
+all-undealt {T} grid guests hand table shape is = record {
+  each = each;
+  has = λ number high low.
+      let all = ap callers shape in
+      let more = is.0 in (
+        0,
+        hand,
+        refl,
+        subst (λ (v : View). In (first_record number) v.lanes) (sym book)
+            (in-first-records number guests.next (callers grid.shape - guests.next) high (omega (arith, all, low, more))),
+        ap (λ (v : View). v.seen) book,
+      );
+}
+  where
+    book : hand.me.0 ≡ record { lanes = first_records guests.next (callers grid.shape - guests.next); seen = []; rooms = []; told = []; steps = 0; looks = 0 }
+    book i = (is.1.1 i).0
+
+    each : (index : ℕ) (other : Seat (Option (Share T)) View) → slice_get (hand ∷ []) index ≡ Some other → (other.table_id ≡ guests.table) × (other.me.1 ≡ [])
+    each zero other at =
+        let same : hand ≡ other = cc at in
+        subst (λ (h : Seat (Option (Share T)) View). (h.table_id ≡ guests.table) × (h.me.1 ≡ [])) same (is.1.0 ∙ sym table, λ i. (is.1.1 i).1)
+    each (suc index) other at = let nowhere : None ≡ Some other = at in absurd (cc nowhere)
+
+-- the only caller of a hand is among its own
+pub own-lane : {T : Type 0} (hand : Seat (Option (Share T)) View) → IsOne hand.me.0 → In (the_lane hand.me.0) hand.me.0.lanes
+own-lane hand one = subst (In (the_lane hand.me.0)) (sym one) (inl refl)
+
 -- ---- the hands of all guests of a pool
 
 module _ {T : Type 0} (grid : Grid T) {undealt : GuestsOf} {dealt : List GuestOf} {front rest : List (Seat (Option (Share T)) View)}
@@ -105,28 +150,22 @@ module _ {T : Type 0} (grid : Grid T) {undealt : GuestsOf} {dealt : List GuestOf
         subst (λ (z : Shape). HasNoReference z guest.book) shape free.bare,
       )
 
-  front-hand : (index : ℕ) (hand : Seat (Option (Share T)) View) → slice_get front index ≡ Some hand → IsOf grid hand × IsOne hand.me.0 × (hand.me.1 ≡ [])
+  front-hand : (index : ℕ) (hand : Seat (Option (Share T)) View) → slice_get front index ≡ Some hand → IsOf grid hand × (hand.me.1 ≡ [])
   front-hand index hand at =
       let low = slice_get_within front index hand at in
       let same = fronts.count in
       let guest = entry-at dealt index (omega (arith, low, same)) in
       let is = fronts.each index guest.0 hand guest.1 at in (
         is.0 ∙ (are.owned index guest.0 guest.1).0,
-        subst IsOne (sym (λ i. (is.1 i).0)) is.2.fits.seat.one,
         λ i. (is.1 i).1,
       )
 
-  rest-hand : (index : ℕ) (hand : Seat (Option (Share T)) View) → slice_get rest index ≡ Some hand → IsOf grid hand × IsOne hand.me.0 × (hand.me.1 ≡ [])
-  rest-hand index hand at =
-      let is = rests.each index hand at in (
-        is.0 ∙ are.rest.0,
-        subst IsOne (sym (λ i. (is.1 i).0)) refl,
-        λ i. (is.1 i).1,
-      )
+  rest-hand : (index : ℕ) (hand : Seat (Option (Share T)) View) → slice_get rest index ≡ Some hand → IsOf grid hand × (hand.me.1 ≡ [])
+  rest-hand index hand at = let is = rests.each index hand at in (is.0 ∙ are.rest.0, is.1)
 
   -- they are the grid's
-  pub guest-hand : (index : ℕ) (hand : Seat (Option (Share T)) View) → slice_get (front ++ rest) index ≡ Some hand → IsOf grid hand × IsOne hand.me.0 × (hand.me.1 ≡ [])
-  guest-hand = either-part (λ hand. IsOf grid hand × IsOne hand.me.0 × (hand.me.1 ≡ [])) front rest front-hand rest-hand
+  pub guest-hand : (index : ℕ) (hand : Seat (Option (Share T)) View) → slice_get (front ++ rest) index ≡ Some hand → IsOf grid hand × (hand.me.1 ≡ [])
+  guest-hand = either-part (λ hand. IsOf grid hand × (hand.me.1 ≡ [])) front rest front-hand rest-hand
 
   module _ {content : T → List ℕ} {room : T → ℕ} {words : List ℕ} {slots : List (Option (Share T))} {w : World} (hands : List (Seat (Option (Share T)) View))
       (ends : EndsWith content room grid (hands ++ (front ++ rest)) words slots w) where
@@ -146,7 +185,8 @@ module _ {T : Type 0} (grid : Grid T) {undealt : GuestsOf} {dealt : List GuestOf
         let book : hand.me.0 ≡ guest.book = λ i. (is.1 i).0 in
         let stands = behind hands (front ++ rest) index hand (in-front front rest index hand there.1) in record {
           seen = subst (λ (v : View). IsPrefix v.seen w.history) book (ends.seen (length hands + index) hand stands);
-          record_is = subst (λ (v : View). IsRecord grid.shape w (the_lane v)) book (ends.records (length hands + index) hand stands);
+          record_is = subst (λ (v : View). IsRecord grid.shape w (the_lane v)) book
+              (ends.records (length hands + index) hand (the_lane hand.me.0) stands (own-lane hand (subst IsOne (sym book) is.2.fits.seat.one)));
           free = is.2;
         }
 
@@ -167,18 +207,13 @@ module _ {T : Type 0} (grid : Grid T) {undealt : GuestsOf} {dealt : List GuestOf
 
     rest-ends : (number : ℕ) → undealt.next ≤ number → number < callers grid.shape → RestEnds number
     rest-ends number high low =
-        let index : ℕ = number - undealt.next in
-        let all = rests.count ∙ ap callers are.rest.1 in
-        let there = entry-at rest index (omega (arith, high, low, all)) in
-        let hand : Seat (Option (Share T)) View = there.0 in
-        let is = rests.each index hand there.1 in
-        let at : undealt.next + index ≡ number = omega (arith, high) in
-        let book : hand.me.0 ≡ first_book number = (λ i. (is.1 i).0) ∙ ap first_book at in
-        let stands = behind hands (front ++ rest) (length front + index) hand (behind front rest index hand there.1) in
+        let there = rests.has number high (subst (λ (z : Shape). number < callers z) (sym are.rest.1) low) in
+        let hand : Seat (Option (Share T)) View = there.1 in
+        let stands = behind hands (front ++ rest) (length front + there.0) hand (behind front rest there.0 hand there.2) in
         let first = are.count in record {
           fits = first-guest grid.shape number (omega (arith, high, first)) low;
-          seen = subst (λ (v : View). IsPrefix v.seen w.history) book (ends.seen (length hands + (length front + index)) hand stands);
-          record_is = subst (λ (v : View). IsRecord grid.shape w (the_lane v)) book (ends.records (length hands + (length front + index)) hand stands);
+          seen = subst (λ (acts : List Act). IsPrefix acts w.history) there.4 (ends.seen (length hands + (length front + there.0)) hand stands);
+          record_is = ends.records (length hands + (length front + there.0)) hand (first_record number) stands there.3;
         }
 
     pub rest-unmade : (number : ℕ) → undealt.next ≤ number → number < callers grid.shape → acts_of number w.history ≡ []

@@ -1,8 +1,8 @@
 -- What a lane keeps fits at first, when it has seen and done nothing; and how lanes are made and endowed, one after another.
-use Rattle.std.proofs.Common.{◌≡◌, ⊎_elim, ℕ, suc, ◌+◌, ◌<◌, ◌≤◌, Bool, true, false, cond, List, [], ◌∷◌, ◌++◌, length, replicate, Option, Some, None, refl, ap, sym, ◌∙◌, subst, arith, eq-eqb, slice_get, append_assoc, append-nil}
+use Rattle.std.proofs.Common.{◌≡◌, ⊎_elim, ℕ, suc, ◌+◌, ◌-◌, ◌<◌, ◌≤◌, Bool, true, false, cond, List, [], ◌∷◌, ◌++◌, length, replicate, Option, Some, None, refl, ap, sym, ◌∙◌, subst, arith, eq-eqb, slice_get, append_assoc, append-nil}
 use Rattle.std.specs.List.{Contains}
 use Rattle.std.proofs.lemmas.List.{length_push, length-replicate, get_or-replicate}
-use Rattle.std.proofs.lemmas.Bool.{cond_both}
+use Rattle.std.proofs.lemmas.Bool.{cond_both, cases_lt}
 use Rattle.std.proofs.lemmas.Option.{slice_get_within, get_or_from_slice_get, slice_get-get_or}
 use Rattle.std.proofs.lemmas.Nat.{mul-le}
 use Rattle.std.proofs.Math.Nat.{add-mul}
@@ -26,13 +26,16 @@ use Rattle.shardpool.specs.declared.pool.LaneState.{LaneState}
 use Rattle.shardpool.specs.declared.opening.Unendowed.{Unendowed}
 use Rattle.slotcell.specs.declared.objects.Clear.{Ghosts}
 use Rattle.poolsteps.specs.declared.grid.Grid.{Grid}
-use Rattle.poolsteps.specs.Grids.{IsFirstHand, AreFirstHands}
+use Rattle.poolsteps.specs.Grids.{IsFirstHand, AreFirstHands, SameSeat}
+use Rattle.poolsteps.specs.Rule.{first_records}
+use Rattle.poolsteps.specs.Seats.{without_first}
+use Rattle.atomic_table.specs.Table.{Me}
 use Rattle.atomic_table.specs.declared.shared.Seat.{Seat}
 use Rattle.poolsteps.specs.Share.{Share}
 use Rattle.poolsteps.proofs.ViewLemmas.{entry-of}
 use Rattle.poolsteps.proofs.Owning.{owners-none}
 use Rattle.shardpool.specs.Tokens.{PoolOf, LaneOf}
-use Rattle.shardpool.specs.Opened.{first_book, IsFirstLane, AreFirstLanes, AreFurtherHands, IsFirstState, AreFirstParts}
+use Rattle.shardpool.specs.Opened.{first_book, IsFirstLane, AreFirstLanes, AreFurtherHands, HasUndealt, IsFirstState, AreFirstParts}
 use Rattle.shardpool.specs.Rows.{AreStanding}
 use Rattle.shardpool.specs.Places.{IsBlank}
 use Rattle.shardpool.specs.LaneStates.{IsFirst, FitsSeat, FitsTops, FitsRow, FitsRows, FitsStores, FitsRights, Fits}
@@ -228,7 +231,7 @@ module _ {T : Type 0} (grid : Grid T) where
 
   -- of these hands the first is that of the next number
   pub next-hand : (number : ℕ) (hands rest : List (Seat (Option (Share T)) View)) (hand : Seat (Option (Share T)) View)
-      → AreFurtherHands grid number hands → hands ≡ hand ∷ rest → (number < callers grid.shape) × IsFirstHand grid number hand
+      → AreFurtherHands grid number hands → hands ≡ hand ∷ rest → (number < grid.shape.lanes) × IsFirstHand grid number hand
   next-hand number hands rest hand are is =
       let long = ap length is in
       let all = are.count in (
@@ -245,6 +248,20 @@ module _ {T : Type 0} (grid : Grid T) where
     each = λ index next at. subst (λ (n : ℕ). IsFirstHand grid n next) (let same : number + suc index ≡ number + 1 + index = omega arith in same)
         (are.each (suc index) next (ap (λ (l : List (Seat (Option (Share T)) View)). slice_get l (suc index)) is ∙ at));
   }
+
+  -- a hand of several callers, without the first
+  pub others-undealt : (next : ℕ) (before after : Seat (Option (Share T)) View) → HasUndealt grid next (Some before) → (next + 1 ≡ callers grid.shape → ⊥)
+      → SameSeat before after → after.me ≡ (without_first before.me.0, before.me.1) → HasUndealt grid (next + 1) (Some after)
+  others-undealt next before after is further same me =
+      let low = is.0 in
+      let more : ℕ = callers grid.shape - (next + 1) in
+      let count : callers grid.shape - next ≡ suc more = omega (arith, low) in
+      let before_is = is.1.1 ∙ ap (λ (n : ℕ). (record { lanes = first_records next n; seen = []; rooms = []; told = []; steps = 0; looks = 0 }, [])) count in (
+        ⊎_elim (λ (less : next + 1 < callers grid.shape). less)
+            (λ (high : callers grid.shape ≤ next + 1). absurd (further (omega (arith, low, high))))
+            (cases_lt (next + 1) (callers grid.shape)),
+        (same.0 ∙ is.1.0, me ∙ ap (λ (m : Me (Option (Share T)) View). (without_first m.0, m.1)) before_is),
+      )
 
   -- the pool of the table
   abbrev pub pool_of : PoolOf

@@ -1,5 +1,5 @@
 -- The places whose bits are set in rows of a shard: those that guests returned.
-use Rattle.std.proofs.Common.{◌≡◌, ◌≢◌, ⊎_elim, ℕ, zero, suc, ◌+◌, ◌-◌, ◌*◌, ◌/◌, ◌%◌, ◌^◌, ◌<◌, ◌≤◌, Bool, true, false, cond, nat_le, List, [], ◌∷◌, ◌++◌, length, refl, ap, sym, ◌∙◌, subst, arith, lit<}
+use Rattle.std.proofs.Common.{◌≡◌, ◌≢◌, ⊎_elim, ℕ, zero, suc, ◌+◌, ◌-◌, ◌*◌, ◌/◌, ◌%◌, ◌^◌, ◌<◌, ◌≤◌, Bool, true, false, cond, nat_le, List, [], ◌∷◌, length, ap, sym, ◌∙◌, subst, arith, lit<}
 use Rattle.std.proofs.lemmas.Bool.{cases_Bool, leb-true, le-leb, and_from, lt-ltb}
 use Rattle.std.specs.Prelude.{nat_lt}
 use mathlib.Core.Logic.{dite}
@@ -8,7 +8,7 @@ use Rattle.core.specs.declared.slots.Slots.{Slots}
 use Rattle.core.specs.Mem.Slots.{slots_items}
 use Rattle.keybits.specs.declared.shape.Shape.{Shape}
 use Rattle.keybits.specs.Places.{shard_of, page_of, slot_of}
-use Rattle.keybits.specs.Shapes.{IsShape, is_place, page_size}
+use Rattle.keybits.specs.Shapes.{is_place}
 use Rattle.keybits.specs.Counts.{times}
 use Rattle.keybits.specs.Rows.{row_place, row_word, row_places, set_places}
 use Rattle.keybits.proofs.CountLemmas.{times-append, none_at, no_times}

@@ -1,6 +1,5 @@
 -- What a lane is once it gathered a row of bits, and once it listed a place of it.
 use Rattle.std.proofs.Common.{◌≡◌, ◌≢◌, ◌⊎◌, ⊎_elim, ℕ, ◌+◌, ◌<◌, ◌≤◌, Bool, true, false, cond, eqb, List, [], ◌∷◌, ◌++◌, map, length, Option, Some, None, refl, ap, sym, ◌∙◌, subst, arith, append_assoc, append-nil, length-append, eq-eqb, ne_eqb, inl, inr}
-use Rattle.std.specs.Prelude.{slice_set}
 use Rattle.std.specs.List.{All, Contains}
 use Rattle.std.proofs.lemmas.Bool.{cases_Bool, cases_lt}
 use Rattle.std.proofs.lemmas.List.{map-append, nil_from_length, length-map}
@@ -11,8 +10,7 @@ use Rattle.atomic_table.specs.Seated.{TableId}
 use Rattle.atomic_table.specs.Table.{Me}
 use Rattle.keybits.specs.declared.shape.Shape.{Shape}
 use Rattle.keybits.specs.declared.place.Place.{Place}
-use Rattle.keybits.specs.Places.{shard_of, page_of, number_of}
-use Rattle.keybits.specs.Shapes.{is_place, index_of}
+use Rattle.keybits.specs.Places.{page_of, number_of}
 use Rattle.keybits.specs.Keys.{place_of}
 use Rattle.keybits.specs.Rows.{set_places}
 use Rattle.freelists.specs.Shards.{place_numbered}
@@ -24,12 +22,12 @@ use Rattle.seqpool.specs.Pool.{with, Spot, Pool, has, Allowed, fresh, pool_after
 use Rattle.seqpool.proofs.Growth.{legal-rest, pool-snoc, after-here}
 use Rattle.poolsteps.specs.declared.view.Stored.{Stored}
 use Rattle.poolsteps.specs.PlaceLaws.{gives_away}
-use Rattle.poolsteps.specs.Shares.{at_rest, room_of}
+use Rattle.poolsteps.specs.Shares.{at_rest}
 use Rattle.poolsteps.specs.declared.view.LaneRecord.{LaneRecord}
 use Rattle.poolsteps.specs.declared.view.View.{View}
-use Rattle.poolsteps.specs.Views.{head_record, the_lane, status_of, known_of, acts_in}
+use Rattle.poolsteps.specs.Views.{head_record, the_lane, status_of, known_of}
 use Rattle.poolsteps.specs.ViewLaws.{references_made}
-use Rattle.poolsteps.specs.Told.{RowSteps, HasPlace, references_seen}
+use Rattle.poolsteps.specs.Told.{RowSteps, references_seen}
 use Rattle.poolsteps.specs.Returned.{Gathers, gathered_record}
 use Rattle.seatcalls.specs.Carried.{Carries, AreEmptied}
 use Rattle.seatcalls.specs.Left.{held_after, has_retired}
@@ -44,7 +42,7 @@ use Rattle.shardpool.specs.Places.{IsBlank, IsResting}
 use Rattle.seqpool.specs.Histories.{acts_of}
 use Rattle.seqpool.proofs.Growth.{acts-append}
 use Rattle.shardpool.specs.Lanes.{holds, IsFilling, SeesOn, Made}
-use Rattle.shardpool.specs.LaneStates.{FitsRow, FitsStores, FitsRights, Fits}
+use Rattle.shardpool.specs.LaneStates.{FitsStores, Fits}
 use Rattle.shardpool.specs.Rows.{AreStanding}
 use Rattle.shardpool.specs.Stores.{KeepsOwn}
 use Rattle.shardpool.specs.Gathers.{gather_acts, IsGathered, Brings, GathersRow, ListsGathered, AfterGather, GathersAll}
@@ -55,7 +53,7 @@ use Rattle.shardpool.proofs.frame.LaneFrames.{passes-refs, passes-carries, onlya
 use Rattle.shardpool.proofs.frame.KeptPlaces.{seat-passes, last_pushed-same, spot-passes, still-with, resting-passes}
 use Rattle.shardpool.proofs.frame.SeenHistories.{made-passes}
 use Rattle.shardpool.proofs.frame.Standing.{sees-on}
-use Rattle.shardpool.proofs.free.Stores.{Spared, SparesFree, IsApart, stores-pass, stores-apart, stores-kept, filling-apart, apart-away, numbered}
+use Rattle.shardpool.proofs.free.Stores.{Spared, SparesFree, IsApart, stores-pass, stores-apart, stores-kept, apart-away, numbered}
 use Rattle.shardpool.proofs.free.Rights.{rights-set}
 use Rattle.shardpool.proofs.free.Chains.{rest-full, uncollected, known-with, taken-deeds, taken-cells}
 use Rattle.shardpool.proofs.free.Takes.{no-references, unheld}

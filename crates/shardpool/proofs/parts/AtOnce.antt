@@ -1,27 +1,23 @@
 -- A clear whose steps were one operation, as a call; and a call behind a look.
-use mathlib.Core.Logic.{dite}
-use native.Mathlib.Decide.{ℕ_discrete}
-use Rattle.std.proofs.lemmas.Bool.{and_parts, eqb-true}
-use Rattle.std.proofs.Common.{◌≢◌, false, ne_eqb, ◌≡◌, ◌&&◌, inl, inr, ⊎_elim, ℕ, ◌+◌, ◌%◌, ◌^◌, ◌≤◌, Bool, true, eqb, List, [], ◌∷◌, ◌++◌, append-nil, Option, Some, None, refl, sym, ap, ◌∙◌, subst, arith, eq-eqb}
+use Rattle.std.proofs.Common.{false, ◌≡◌, inl, inr, ⊎_elim, ℕ, ◌+◌, ◌≤◌, Bool, true, List, [], ◌∷◌, ◌++◌, append-nil, Option, Some, None, refl, sym, ap, ◌∙◌, subst, arith}
 use Rattle.atomic_table.specs.Table.{Me}
 use Rattle.poolsteps.specs.Spot.{Spot as CellSpot}
 use Rattle.keybits.specs.declared.shape.Shape.{Shape}
 use Rattle.keybits.specs.Keys.{place_of, generation_of, is_key}
-use Rattle.keybits.specs.Words.{state_in, count_in, generation_in, claimable}
-use Rattle.keybits.proofs.KeyLemmas.{generation_of-lt}
+use Rattle.keybits.specs.Words.{count_in}
 use Rattle.seqpool.specs.declared.act.Act.{Act}
 use Rattle.seqpool.specs.declared.act.Act.TheVariants as acts
 use Rattle.steplaws.specs.StepLaws.{reclaim}
 use Rattle.poolsteps.specs.declared.view.LaneRecord.{LaneRecord}
 use Rattle.poolsteps.specs.Views.{head_record}
-use Rattle.seatcalls.proofs.parts.SweptWords.{first, hit, owes, of, won, present, referred-so, marks-present, owes-nothing}
+use Rattle.seatcalls.proofs.parts.SweptWords.{first, hit, owes, of, won, present, marks-present, owes-nothing}
 use Rattle.seatcalls.proofs.parts.Doing.{did-sees, did-most, did-more, same-caller}
 use Rattle.steplaws.specs.Calls.{Call, Caller, key_in, next_step, AreSteps, is_hit, owes_claim}
 use Rattle.steplaws.specs.Calls.Call.{Clearing}
 use Rattle.poolsteps.specs.declared.view.View.{View}
 use Rattle.poolsteps.specs.Views.{the_lane, IsOne}
 use Rattle.poolsteps.specs.Told.{Sees, claimed_under}
-use Rattle.poolsteps.specs.AtOnce.{unreferred, MakesSweep, MakesStrike, MakesMiss}
+use Rattle.poolsteps.specs.AtOnce.{MakesSweep, MakesStrike, MakesMiss}
 use Rattle.seatcalls.specs.declared.at.Reclaimed.{Reclaimed}
 use Rattle.seatcalls.specs.Called.{caller_of, Make, Did, Called, end_acts, end_pushed, FitsGeneration, MovedNothing, EndsWithActs, Ends, Tails, TailActs}
 use Rattle.shardpool.specs.Clears.{Clears, LooksTwice}

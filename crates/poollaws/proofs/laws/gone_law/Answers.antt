@@ -1,4 +1,5 @@
 use Rattle.poollaws.proofs.Ends.{gone-law, unfound-law, missed-law, marks-once}
+use Rattle.poollaws.proofs.Passing.{passed-law}
 use Rattle.poollaws.proofs.laws.gone_law.Goals as goal
 
 pub returns-clause-gone : goal.returns-clause-gone
@@ -12,3 +13,6 @@ returns-clause-missed c = missed-law
 
 pub returns-clause-marks : goal.returns-clause-marks
 returns-clause-marks c = marks-once
+
+pub returns-clause-passed : goal.returns-clause-passed
+returns-clause-passed c = passed-law

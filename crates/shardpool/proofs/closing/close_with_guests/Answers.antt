@@ -3,7 +3,6 @@ use Rattle.std.specs.Vec.{vec_capacity}
 use Rattle.keybits.specs.declared.shape.TheConstants.{MOST_LANES, MOST_GUESTS}
 use Rattle.keybits.specs.Shapes.{callers}
 use Rattle.poolsteps.specs.declared.grid.Grid.{Grid}
-use Rattle.poolsteps.specs.Views.{IsOne}
 use Rattle.seatcalls.specs.Visitors.{GuestOf}
 use Rattle.std.proofs.Common.{◌≡◌, ℕ, ◌+◌, ◌-◌, ◌≤◌, List, [], ◌++◌, length, refl, sym, ap, ◌∙◌, subst, arith, append_assoc, length-append}
 use Rattle.std.specs.Prelude.{Option}
@@ -59,7 +58,7 @@ end-closed-requires g c =
           let some = some-hand grid (lanes-are g at) c.take_apart-hands.ensures.parted in
           let long = length-append hands (front g at ++ rest g at) in
           omega (arith, some, long);
-      each = either-part (λ (hand : Seat (Option (Share g.row.T.Denot)) View). IsOf grid hand × IsOne hand.me.0 × (hand.me.1 ≡ [])) hands (front g at ++ rest g at)
+      each = either-part (λ (hand : Seat (Option (Share g.row.T.Denot)) View). IsOf grid hand × (hand.me.1 ≡ [])) hands (front g at ++ rest g at)
           (is-hand grid (lanes-are g at) c.take_apart-hands.ensures.parted)
           (guest-hand grid (guests-are g at) c.with_dealt.ensures.hands.2 c.with_undealt-hands.ensures.2);
     } in

@@ -1,9 +1,8 @@
 -- Each round of the loop makes one part more.
-use Rattle.std.proofs.Common.{rules, ◌≡◌, ℕ, length, ap, subst, arith, refl}
+use Rattle.std.proofs.Common.{rules, ◌≡◌, length, ap, arith, refl}
 use Rattle.std.proofs.lemmas.Bool.{false≢true}
 use Rattle.std.specs.Vec.Iter.{into_iter_items}
 use Rattle.poolsteps.specs.Grids.{IsFirstHand}
-use Rattle.shardpool.specs.Opened.{AreFurtherHands}
 use Rattle.shardpool.proofs.calls.Openings.{IsFirstPart, none-numbered, one-numbered, first-hands, next-hand, hands-left, part-made}
 use Rattle.shardpool.proofs.opening.parts_of.Given.{Over}
 use Rattle.shardpool.proofs.opening.parts_of.Goals as goal
@@ -64,10 +63,3 @@ returns-clause-parts g c =
           omega (arith, stand, most, least, lanes);
       each = made.each;
     }
-
-pub returns-clause-hands : goal.returns-clause-hands
-returns-clause-hands g c =
-    let most = c.loop-number.auto.number-end in
-    let least = c.loop-number-test.false in
-    let end : c.loop-number.number ≡ c.args.shape.now.lanes = omega (arith, most, least) in
-    (subst (λ (n : ℕ). AreFurtherHands c.in_ok-grid.grid n (into_iter_items c.loop-number.hands)) end c.loop-number.invariant.hands, c.loop-number.invariant.rest)

@@ -3,6 +3,7 @@ use Rattle.std.proofs.Common.{rules, ◌<◌, [], ◌∙◌, refl, ap, sym, subs
 use Rattle.keybits.specs.Shapes.{callers}
 use Rattle.keybits.specs.declared.shape.Shape.{Shape}
 use Rattle.poolsteps.specs.Rule.{first_view}
+use Rattle.poolsteps.specs.Grids.{IsUndealt}
 use Rattle.poolsteps.proofs.Dealing.{none-dealt, one-dealt, all-dealt}
 use Rattle.poolsteps.proofs.grid.Grid.new.Goals as goal
 
@@ -22,7 +23,8 @@ push_reserved-requires g c = search rules
 pub loop-preserved : goal.loop-preserved
 loop-preserved g c =
     let grid = c.in_ok-grid.grid in let hand = c.deal.ensures in let pushed = c.push_reserved in
-    let less = subst (λ (z : Shape). c.loop.counter < (callers z)) (sym c.in_ok-grid.ensures.shape.0) c.loop-test.true in (
+    let low = subst (λ (z : Shape). c.loop.counter < z.lanes) (sym c.in_ok-grid.ensures.shape.0) c.loop-test.true in
+    let less : c.loop.counter < callers grid.shape = omega (arith, low) in (
       one-dealt grid c.loop.counter c.loop.seat c.deal.new.seat c.deal.result c.loop.hands.items pushed.new.self.items c.loop.invariant.0 less
           hand.lane.0 hand.lane.1 hand.rest.0 hand.rest.1 pushed.ensures.items,
       rw pushed.ensures.capacity c.loop.invariant.1,
@@ -30,4 +32,10 @@ loop-preserved g c =
 
 pub returns-clause-hands : goal.returns-clause-hands
 returns-clause-hands g c = let shape = c.in_ok-grid.ensures.shape.0 in
-    all-dealt c.in_ok-grid.grid c.loop.counter c.loop.seat c.loop.hands.items c.loop.invariant.0 (omega (arith, ap (λ (z : Shape). (callers z)) shape))
+    (all-dealt c.in_ok-grid.grid c.loop.counter c.loop.seat c.loop.hands.items c.loop.invariant.0 (omega (arith, ap (λ (z : Shape). z.lanes) shape))).0
+
+pub returns-clause-guests : goal.returns-clause-guests
+returns-clause-guests g c =
+    let grid = c.in_ok-grid.grid in let shape = c.in_ok-grid.ensures.shape.0 in
+    subst (λ (z : Shape). IsUndealt grid z.lanes z.guests c.loop.seat) shape
+    (all-dealt grid c.loop.counter c.loop.seat c.loop.hands.items c.loop.invariant.0 (omega (arith, ap (λ (z : Shape). z.lanes) shape))).1

@@ -1,17 +1,13 @@
 -- Each round lists one place of the row more.
-use Rattle.std.proofs.Common.{◌≡◌, ◌+◌, ◌*◌, ◌<◌, ℕ, true, false, cond, Bool, List, [], ◌∷◌, ◌++◌, length, refl, sym, ap, ◌∙◌, subst, arith, append_assoc, append-nil, length-append, eq-eqb, ne_eqb}
-use mathlib.Core.Logic.{dite}
-use native.Mathlib.Decide.{ℕ_discrete}
+use Rattle.std.proofs.Common.{◌≡◌, ◌+◌, ◌*◌, ℕ, true, false, cond, Bool, List, [], ◌∷◌, ◌++◌, length, refl, sym, ap, ◌∙◌, subst, arith, append_assoc, append-nil, length-append, eq-eqb, ne_eqb}
 use Rattle.keybits.specs.declared.shape.Shape.{Shape}
 use Rattle.keybits.specs.Rows.{set_places}
 use Rattle.seqpool.specs.declared.act.Act.{Act}
 use Rattle.seqpool.specs.Pool.{has}
-use Rattle.poolsteps.specs.Layout.{row_count}
-use Rattle.shardpool.specs.Tokens.{PoolOf, LaneOf}
-use Rattle.shardpool.specs.Gathers.{IsGathered, Brings, AfterGather, gather_acts}
+use Rattle.shardpool.specs.Tokens.{LaneOf}
+use Rattle.shardpool.specs.Gathers.{Brings, gather_acts}
 use Rattle.shardpool.proofs.count.Given.{set-none, set-few}
 use Rattle.shardpool.proofs.free.Gathers.{brings-none, brings-more}
-use Rattle.shardpool.proofs.pool.Pool.gather.Given.{Over}
 use Rattle.shardpool.proofs.pool.Pool.gather.Goals as goal
 
 pub loop-word-init : goal.loop-word-init

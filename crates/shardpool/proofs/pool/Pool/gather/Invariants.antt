@@ -2,7 +2,7 @@
 use Rattle.std.proofs.Common.{◌≡◌, ◌+◌, ◌*◌, ℕ, true, List, [], ◌++◌, length}
 use Rattle.keybits.specs.Rows.{set_places}
 use Rattle.seqpool.specs.Pool.{has}
-use Rattle.shardpool.specs.Tokens.{LaneOf, FillingOf}
+use Rattle.shardpool.specs.Tokens.{FillingOf}
 use Rattle.shardpool.specs.Lanes.{Made}
 use Rattle.shardpool.specs.Gathers.{IsGathered, Brings}
 use Rattle.shardpool.proofs.pool.Pool.gather.Given as goal

@@ -1,6 +1,5 @@
 -- Each round gathers one row more.
-use Rattle.std.proofs.Common.{◌≡◌, ◌+◌, ◌<◌, ℕ, suc, true, false, List, [], ◌∷◌, ◌++◌, refl, sym, ap, ◌∙◌, subst, arith}
-use Rattle.std.proofs.lemmas.Bool.{false≢true}
+use Rattle.std.proofs.Common.{◌≡◌, ◌+◌, ℕ, suc, [], ◌∷◌, ◌++◌, refl, ◌∙◌, subst, arith}
 use Rattle.shardpool.specs.Gathers.{GathersAll, rows_from}
 use Rattle.shardpool.proofs.free.Gathers.{gathers-append, gathers-one, none-brought, some-brought}
 use Rattle.shardpool.proofs.pool.Pool.gather_page.Goals as goal

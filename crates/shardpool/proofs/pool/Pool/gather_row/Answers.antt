@@ -1,5 +1,5 @@
 -- The places of the row are with the lane, and what it keeps stays as it is.
-use Rattle.std.proofs.Common.{◌≡◌, ◌<◌, ℕ, refl, sym, ap, ◌∙◌, subst}
+use Rattle.std.proofs.Common.{◌<◌, sym, ◌∙◌, subst}
 use Rattle.keybits.specs.declared.shape.Shape.{Shape}
 use Rattle.poolsteps.specs.Layout.{row_count}
 use Rattle.poolsteps.specs.Returned.{Gathers}

@@ -1,11 +1,10 @@
 -- The pool's table is the guest's.
-use Rattle.std.proofs.Common.{◌≡◌, ℕ, true, sym, ◌∙◌, subst, List, [], ◌∷◌}
+use Rattle.std.proofs.Common.{◌≡◌, true, sym, ◌∙◌, subst, [], ◌∷◌}
 use Rattle.std.specs.Prelude.{IfOk, IfErr, None}
 use denote.RawPtr.{Ptr}
 use Rattle.keybits.specs.Keys.{is_key, place_of}
 use Rattle.seqpool.specs.declared.act.Act.TheVariants as acts
 use Rattle.seatcalls.specs.Endings.{Ends}
-use Rattle.seatcalls.specs.Visitors.{GuestOf, GuestRefOf}
 use Rattle.shardpool.proofs.pool.Pool.get_or_keep_by.Goals as goal
 
 pub get_or_keep-requires : goal.get_or_keep-requires

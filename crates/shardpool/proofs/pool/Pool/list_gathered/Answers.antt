@@ -1,9 +1,7 @@
 -- The gathered place's object is taken out of its slot, and both are the lane's own.
-use Rattle.std.proofs.Common.{◌≡◌, ◌<◌, ℕ, true, refl, sym, ap, ◌∙◌, subst, arith}
+use Rattle.std.proofs.Common.{◌≡◌, ℕ, refl, sym, ap, ◌∙◌, subst, arith}
 use Rattle.keybits.specs.declared.shape.Shape.{Shape}
-use Rattle.keybits.specs.Places.{shard_of}
-use Rattle.keybits.specs.Shapes.{IsShape, is_place, callers, shard_places}
-use Rattle.seqpool.specs.Pool.{Phase, with}
+use Rattle.keybits.specs.Shapes.{is_place, callers}
 use denote.RawPtr.{Ptr}
 use Rattle.poolsteps.specs.Told.{HasPlace}
 use Rattle.poolsteps.specs.Shares.{HasAll, reclaimer}
@@ -11,7 +9,7 @@ use Rattle.poolsteps.specs.Layout.{shard_start, spots_at}
 use Rattle.poolsteps.specs.Views.{the_lane}
 use Rattle.poolsteps.specs.Grids.{IsSpot}
 use Rattle.seatcalls.specs.Carried.{AreEmptied, AreAtRest, Carries}
-use Rattle.shardpool.specs.Tokens.{PoolOf, LaneOf}
+use Rattle.shardpool.specs.Tokens.{LaneOf}
 use Rattle.shardpool.specs.Lanes.{Made}
 use Rattle.shardpool.specs.Gathers.{IsGathered, ListsGathered}
 use Rattle.shardpool.proofs.frame.LaneFacts.{lane_of}
