@@ -36,7 +36,7 @@ fn copy_script(alloc: Global, script: &Script) -> Result<Script, AllocError>
 }
 
 /// The same scripts once more.
-pub(crate) fn copy_scripts(alloc: Global, scripts: &[Script]) -> Result<Vec<Script>, AllocError>
+pub fn copy_scripts(alloc: Global, scripts: &[Script]) -> Result<Vec<Script>, AllocError>
     ensures { IfOk result (λ copies. copies.items ≡ scripts.now) }
 {
     let mut copies = Vec::with_capacity(alloc, scripts.len())?;

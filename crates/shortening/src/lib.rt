@@ -18,6 +18,7 @@ mod words;
 
 pub use acts::acts_of;
 pub use bounds::Bounds;
+pub use copies::copy_scripts;
 pub use fault::Unshortened;
 pub use plans::{Sought, shorten_plan};
 pub use short::{Short, ShortPlan};

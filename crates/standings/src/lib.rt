@@ -10,4 +10,5 @@ mod steps;
 mod turns;
 mod words;
 
+pub use replies::same_replies;
 pub use standing::same_standing;

@@ -6,14 +6,16 @@ use traces::Reply;
 
 /// Whether two contents are the same.
 pub(crate) fn same_bytes(bytes: &Bytes, others: &Bytes) -> bool
-    ensures { result ≡ true → bytes.now ≡ others.now }
+    ensures same { result ≡ true → bytes.now ≡ others.now }
+    ensures whole { bytes.now ≡ others.now → result ≡ true }
 {
     bytes.as_slice() == others.as_slice()
 }
 
 /// Whether two replies are the same.
 fn same_reply(reply: &Reply, other: &Reply) -> bool
-    ensures { result ≡ true → reply.now ≡ other.now }
+    ensures same { result ≡ true → reply.now ≡ other.now }
+    ensures whole { reply.now ≡ other.now → result ≡ true }
 {
     match (reply, other) {
         (Reply::Filling(key), Reply::Filling(more)) => key == more,
@@ -31,8 +33,9 @@ fn same_reply(reply: &Reply, other: &Reply) -> bool
 }
 
 /// Whether two rows of replies are the same.
-pub(crate) fn same_replies(replies: &[Reply], others: &[Reply]) -> bool
-    ensures { result ≡ true → replies.now ≡ others.now }
+pub fn same_replies(replies: &[Reply], others: &[Reply]) -> bool
+    ensures same { result ≡ true → replies.now ≡ others.now }
+    ensures whole { replies.now ≡ others.now → result ≡ true }
 {
     if replies.len() != others.len() {
         return false;

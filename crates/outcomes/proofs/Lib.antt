@@ -1,0 +1,10 @@
+pub mod AmongLemmas
+pub mod CountLemmas
+pub mod ScheduleLemmas
+pub mod Becoming
+pub mod TurnLemmas
+pub mod ReplyLemmas
+pub mod LeadLemmas
+pub mod StateLemmas
+pub mod SearchLemmas
+pub mod EndLemmas

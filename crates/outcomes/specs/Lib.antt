@@ -1,0 +1,5 @@
+pub mod Among
+pub mod Numbers
+pub mod Schedules
+pub mod Outcomes
+pub mod Search
