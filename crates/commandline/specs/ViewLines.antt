@@ -20,6 +20,11 @@ abbrev pub words_line : App
 words_line = line_of (codes "words") (positional (codes "file") ∷ flag_named (codes "keys") ∷ flag_named (codes "numbers")
     ∷ flag_named (codes "explain") ∷ [])
 
+-- the subcommand `page`
+abbrev pub page_line : App
+page_line = line_of (codes "page")
+    (positional (codes "file") ∷ option_named (codes "from") ∷ option_named (codes "turns") ∷ flag_named (codes "explain") ∷ [])
+
 -- the subcommand of this name, about a file alone
 abbrev pub plain_line : List ℕ → App
 plain_line name = line_of name (positional (codes "file") ∷ flag_named (codes "explain") ∷ [])
@@ -37,7 +42,7 @@ worded_program = with_subcommand (with_subcommand (with_subcommand view_program 
 abbrev pub paged_program : App
 paged_program = with_subcommand
     (with_subcommand (with_subcommand worded_program (plain_line (codes "json")).top) (plain_line (codes "events")).top)
-    (plain_line (codes "page")).top
+    page_line.top
 
 -- the program's command line
 abbrev pub view_line : App
@@ -52,18 +57,21 @@ abbrev pub IsNumber : ℕ → Option (List ℕ) → ℕ → Type 0
 IsNumber default None number = number ≡ default
 IsNumber default (Some text) number = turn_number text ≡ Some number
 
--- what the subcommand of this name asks for, by its matches: a picture from the first turn on and of all turns, unless others are given, which fits
--- unless it is to be whole
+-- the first of the turns that are to be shown, and how many at most: from the first turn on and all of them, unless others are given
+abbrev pub AreTurns : List Row → ℕ → ℕ → Type 0
+AreTurns rows first count =
+    IsNumber 0 (first_of (codes "from") rows) first × IsNumber 18446744073709551615 (first_of (codes "turns") rows) count
+
+-- what the subcommand of this name asks for, by its matches: a picture or a page of some turns; a picture fits unless it is to be whole
 abbrev pub IsView : List ℕ → List Row → View → Type 0
 IsView name rows (views.Picture first count fit) =
-    (name ≡ codes "picture") × IsNumber 0 (first_of (codes "from") rows) first
-    × IsNumber 18446744073709551615 (first_of (codes "turns") rows) count × (fit ≡ not (flag_of (first_of (codes "whole") rows)))
+    (name ≡ codes "picture") × AreTurns rows first count × (fit ≡ not (flag_of (first_of (codes "whole") rows)))
 IsView name rows (views.Words keys numbers) =
     (name ≡ codes "words") × (keys ≡ flag_of (first_of (codes "keys") rows)) × (numbers ≡ flag_of (first_of (codes "numbers") rows))
 IsView name rows views.Summary = name ≡ codes "summary"
 IsView name rows views.Json = name ≡ codes "json"
 IsView name rows views.Events = name ≡ codes "events"
-IsView name rows views.Page = name ≡ codes "page"
+IsView name rows (views.Page first count) = (name ≡ codes "page") × AreTurns rows first count
 IsView name rows views.Check = name ≡ codes "check"
 
 -- what clap matched, a subcommand's name and its matches, asks for this

@@ -14,19 +14,19 @@ abbrev pub wrong_if_given : Reason → Option (List ℕ) → Option Wrong
 wrong_if_given reason None = None
 wrong_if_given reason (Some text) = unless_read (turn_number text) reason text
 
--- what is wrong with the turns of a picture
-abbrev pub wrong_picture : List Row → Option Wrong
-wrong_picture rows = first_wrong (wrong_if_given BadFrom (first_of (codes "from") rows))
+-- what is wrong with the turns of a picture or a page
+abbrev pub wrong_turns : List Row → Option Wrong
+wrong_turns rows = first_wrong (wrong_if_given BadFrom (first_of (codes "from") rows))
     (wrong_if_given BadCount (first_of (codes "turns") rows))
 
 -- this is wrong with the matches of the subcommand with this name, beside its file
 pub record IsWrongView (name : List ℕ) (rows : List Row) (wrong : Wrong) : Type 0 where
-  pub picture : name ≡ codes "picture" → wrong_picture rows ≡ Some wrong
+  pub picture : name ≡ codes "picture" → wrong_turns rows ≡ Some wrong
   pub words : name ≡ codes "words" → ⊥
   pub summary : name ≡ codes "summary" → ⊥
   pub json : name ≡ codes "json" → ⊥
   pub events : name ≡ codes "events" → ⊥
-  pub page : name ≡ codes "page" → ⊥
+  pub page : name ≡ codes "page" → wrong_turns rows ≡ Some wrong
   pub check : name ≡ codes "check" → ⊥
 
 -- a mistake says what is wrong with the matches of the subcommand with this name; another fault says nothing of it

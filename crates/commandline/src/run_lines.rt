@@ -19,8 +19,8 @@ Example, which runs as it stands: three turns of a lane that publishes an object
     poolrun replay - --schedule 0,0,0 --explain
 Example: poolrun replay first.json --schedule 0,0
 
-With --explain a line behind each mistake says where it is and what is wanted there. Where standard error is a terminal
-it is so without the word: --explain=never, or POOL_EXPLAIN=never in the environment, turns it off.",
+With --explain, a line after each error says where it is and what is expected there. This is on by default if standard
+error is a terminal; --explain=never, or POOL_EXPLAIN=never in the environment, turns it off.",
     about: "A pool of objects that are cleared and used again in place: replays scripts on it step by step, runs them on threads,\nchecks what was recorded of it, and decodes its keys.",
     usage: Some("poolrun <COMMAND>"),
     more: "\
@@ -28,26 +28,26 @@ Script files are JSON texts: a shape, and for each lane a list of commands, as
   {\"shape\":{\"lanes\":1,\"first_page\":2,\"pages\":1,\"last_generation\":4294967295},
    \"scripts\":[[[\"create\",0],[\"write\",0,\"6869\"],[\"publish\",0],[\"get\",1,\"@0\"],[\"read\",1]]]}
   The shape: lanes 1 to 16; first_page 1, 2, 4, 8, 16, 32 or 64; pages 1 to 6;
-    last_generation 1 to 4294967295; perhaps tag, 0 to 255.
+    last_generation 1 to 4294967295; and, if wanted, tag, 0 to 255.
   The commands: create R, write R BYTES, publish R, downgrade R, get R KEY, read R, release R,
     clear KEY. R is 0 to 15, BYTES are pairs of hexadecimal digits in quotes, KEY is a number,
     or \"@R\" for the last key of R.
 
-A file named - is standard input; ./- is the file of that name.
+A FILE of - means standard input; ./- is a file of that name.
 
 Exit status:
-  0  it is done, or help or the version was printed
-  1  a fault, which is a line on standard error; an illegal act; a number that is no key
-  2  a mistake in these words, or in a schedule's file",
+  0  success; help or the version was printed
+  1  a fault, reported on standard error; an illegal act; a number that is no key
+  2  a usage error, in these words or in a schedule's file",
 };
 
 /// What help says of the option by which mistakes are explained.
 const EXPLAIN: &str =
-    "Says on standard error where a mistake is, and what is wanted there. At a terminal it does so by itself: --explain=never, =always or =auto says when";
+    "Explains each error on standard error: where it is, and what is expected there. On by default at a terminal; --explain=never, =always or =auto sets when";
 
 /// What help says of the option by which progress is told.
 const PROGRESS: &str =
-    "Says on standard error how far it is. At a terminal it does so by itself: --progress=never, =always or =auto says when";
+    "Reports progress on standard error. On by default at a terminal; --progress=never, =always or =auto sets when";
 
 /// The lanes that take turns.
 const SCHEDULE: Argument<'static> = Argument {
@@ -74,7 +74,7 @@ const TURNS: Argument<'static> = Argument {
 const STOP: Argument<'static> = Argument {
     kind: Kind::Valued("L:K"),
     name: "stop",
-    help: "Lane L has no turn after its K-th",
+    help: "Stops lane L after its K-th turn",
 };
 
 /// The subcommand `replay`.
@@ -82,22 +82,22 @@ static REPLAY: Line<'static> = Line {
     name: "replay",
     help: Help {
         example: "Example: poolrun replay first.json --schedule 0,0",
-        about: "Replays the scripts of a file over a schedule, step by step, and prints what each step did",
+        about: "Replays the scripts of a file by a schedule, step by step, and prints what each step did",
         usage: Some(
             "poolrun replay <FILE> --schedule <LANES> [--stop <L:K>] [--acts | --print-schedule] [--progress] [--explain]\n       poolrun replay <FILE> --seed <N> --turns <M> [--stop <L:K>] [--acts | --print-schedule] [--progress] [--explain]",
         ),
         more: "\
 Give either --schedule, or both --seed and --turns. The same words print the same text each time.
 
-Prints a line for each reply of a command and for each atomic step, in the order of the turns; with
---acts the text of acts that `poolrun check` reads; with --print-schedule the schedule, as --schedule
-reads it from a file: numbers with single commas or line feeds between them. A fault prints `fault NUMBER NAME` on standard
+Prints a line for each reply of a command and for each atomic step, in the order of the turns. With
+--acts, prints the acts, as `poolrun check` reads them; with --print-schedule, the schedule, as --schedule
+reads it from a file: numbers separated by single commas or line feeds. A fault prints `fault NUMBER NAME` on standard
 error, and nothing on standard output.
 
-With --progress a line on standard error says how many turns are done, after each 50000 of them. At a terminal it is
-written over, and gone at the end.
+With --progress, a line on standard error says how many turns are done, after every 50000 of them. At a terminal the
+line is overwritten, and erased at the end.
 
-Exit status: 0 where it is done, 1 after a fault, 2 after a mistake in these words.",
+Exit status: 0 on success, 1 after a fault, 2 after a usage error.",
     },
     arguments: &[
         Argument {
@@ -112,12 +112,12 @@ Exit status: 0 where it is done, 1 after a fault, 2 after a mistake in these wor
         Argument {
             kind: Kind::Flag,
             name: "acts",
-            help: "Prints the acts in place of the trace",
+            help: "Prints the acts instead of the trace",
         },
         Argument {
             kind: Kind::Flag,
             name: "print-schedule",
-            help: "Prints the schedule in place of the trace",
+            help: "Prints the schedule instead of the trace",
         },
         Argument {
             kind: Kind::Flag,
@@ -137,28 +137,27 @@ static SHORTEN: Line<'static> = Line {
     name: "shorten",
     help: Help {
         example: "Example: poolrun shorten first.json --seed 1 --turns 100 --until PUBLISH",
-        about: "Leaves entries out of a schedule for as long as a word stands in its replay, and prints what is left",
+        about: "Shortens a schedule while WORD still appears in its replay, and prints the result",
         usage: Some(
             "poolrun shorten <FILE> --schedule <LANES> [--stop <L:K>] --until <WORD> [--words] [--tries <T>] [--scripts] [--progress] [--explain]\n       poolrun shorten <FILE> --seed <N> --turns <M> [--stop <L:K>] --until <WORD> [--words] [--tries <T>] [--scripts] [--progress] [--explain]",
         ),
         more: "\
-WORD is one or more fields of a line of the trace or of the acts, as full, CLAIM or 'clear 16777216 true':
-it stands between spaces, or at an end of the line. With --words it is one or more fields of a line as
-`poolview words` shows it, as failed or 'MARKED count 1'. No single entry of what is printed can be left out.
+WORD is one or more whole fields of a line of the trace or of the acts, such as full, CLAIM or
+'clear 16777216 true'. With --words, it is one or more whole fields of a line as `poolview words` shows it,
+such as failed or 'MARKED count 1'. No single entry can be removed from the schedule that is printed.
 
-With --scripts commands are left out of the scripts, too, and a second line is the script file that is left:
+With --scripts, commands are removed from the scripts too, and a second line has the script file that is left:
   poolrun shorten first.json --seed 1 --turns 100 --until PUBLISH --scripts > short
   sed 1d short > short.json; sed 1q short | poolrun replay short.json --schedule -
 
-Each trial is a replay. After those of 100000000 entries in all it gives up. With --tries it ends after
-T replays, and prints the shortest schedule that it has then; more can perhaps be left out of that one,
+Each trial is a replay. The command gives up after replays of 100000000 entries in all. With --tries, it stops
+after T replays and prints the shortest schedule found so far; more entries may be removable from that one,
 which --explain says.
 
-With --progress a line on standard error says at the end how many entries are left of how many, and how
-many trials that took; and meanwhile how far it is, after each 50000 entries that were replayed.
+With --progress, a line on standard error reports progress after every 50000 entries replayed, and at the end
+how many entries are left of how many, and after how many trials.
 
-Exit status: 0 where it is done; 1 after a fault, as where WORD stands nowhere; 2 after a mistake in
-these words.",
+Exit status: 0 on success; 1 after a fault, also if WORD appears nowhere; 2 after a usage error.",
     },
     arguments: &[
         Argument {
@@ -169,7 +168,7 @@ these words.",
         Argument {
             kind: Kind::Needed("WORD"),
             name: "until",
-            help: "What is to stand in the replay still",
+            help: "What must still appear in the replay",
         },
         SCHEDULE,
         SEED,
@@ -178,17 +177,17 @@ these words.",
         Argument {
             kind: Kind::Valued("T"),
             name: "tries",
-            help: "How many replays are made at most, 1 to 18446744073709551615",
+            help: "The most replays to make, 1 to 18446744073709551615",
         },
         Argument {
             kind: Kind::Flag,
             name: "words",
-            help: "WORD is of the trace as `poolview words` shows it",
+            help: "Looks for WORD in the trace as `poolview words` shows it",
         },
         Argument {
             kind: Kind::Flag,
             name: "scripts",
-            help: "Leaves commands out of the scripts, too, and prints the script file that is left in a second line",
+            help: "Removes commands from the scripts too, and prints the remaining script file on a second line",
         },
         Argument {
             kind: Kind::Flag,
@@ -211,12 +210,12 @@ static CHECK: Line<'static> = Line {
         about: "Checks that acts are a legal history of a pool, and prints its summary",
         usage: Some("poolrun check <ACTS> [--explain]"),
         more: "\
-Reads the acts that `poolrun replay --acts` prints: a line `shape LANES FIRST_PAGE PAGES
-LAST_GENERATION`, and a line for each act. Prints the counts of a legal history, or `illegal I N NAME`:
+Reads acts as `poolrun replay --acts` prints them: a line `shape LANES FIRST_PAGE PAGES
+LAST_GENERATION`, then a line for each act. Prints the counts of a legal history, or `illegal I N NAME`:
 the first act that is refused, counted from 0, and why.
 
-Exit status: 0 for a legal history; 1 for an illegal one, and after a fault, as a line that is no
-act; 2 after a mistake in these words.",
+Exit status: 0 for a legal history; 1 for an illegal one, or after a fault, such as a line that is no
+act; 2 after a usage error.",
     },
     arguments: &[
         Argument {
@@ -240,10 +239,10 @@ static RUN: Line<'static> = Line {
         about: "Runs each script of a file on a thread of its own, on one pool, and prints the replies",
         usage: Some("poolrun run <FILE> [--explain]"),
         more: "\
-Prints the replies of lane 0, then those of lane 1, and so on; then what each place of the pool was
-when it was closed. What lanes find of one another may differ from run to run.
+Prints the replies of lane 0, then those of lane 1, and so on; then the state of each place when the pool
+was closed. What lanes see of one another may differ from run to run.
 
-Exit status: 0 where it is done, 1 after a fault, 2 after a mistake in these words.",
+Exit status: 0 on success, 1 after a fault, 2 after a usage error.",
     },
     arguments: &[
         Argument {
@@ -264,15 +263,14 @@ static KEY: Line<'static> = Line {
     name: "key",
     help: Help {
         example: "Example: poolrun key 16777216\nExample: poolrun key --word 4294967301",
-        about: "Prints what a number says as a key, or as a lifecycle word of a trace",
+        about: "Decodes a number as a key, or as a lifecycle word of a trace",
         usage: Some("poolrun key <N> [--hex] [--word] [--explain]"),
         more: "\
-Prints the shard, the page, the slot and the generation of a key, and its tag where that isn't 0; or
-`no key`. With --word the state, the count and the generation of a lifecycle word, as the lines of a
-trace have them behind ENTER, LEAVE, PUBLISH, MARK and CLAIM.
+Prints the shard, the page, the slot and the generation of a key, and its tag unless that is 0; or
+`no key`. With --word, prints the state, the count and the generation of a lifecycle word, as it stands in a
+trace after ENTER, LEAVE, PUBLISH, MARK or CLAIM.
 
-Exit status: 0 where it is done, 1 where there is no key and after a fault, 2 after a mistake in these
-words.",
+Exit status: 0 on success, 1 if there is no key or after a fault, 2 after a usage error.",
     },
     arguments: &[
         Argument {
@@ -283,12 +281,12 @@ words.",
         Argument {
             kind: Kind::Flag,
             name: "hex",
-            help: "N is one to sixteen hexadecimal digits, with or without 0x before them",
+            help: "Reads N as one to sixteen hexadecimal digits, with or without a leading 0x",
         },
         Argument {
             kind: Kind::Flag,
             name: "word",
-            help: "N is a lifecycle word",
+            help: "Reads N as a lifecycle word",
         },
         Argument {
             kind: Kind::Flag,

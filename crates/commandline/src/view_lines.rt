@@ -15,23 +15,23 @@ Example, which runs as it stands: the words of three lines of a trace, decoded
   printf '0 = filling 16777216\\n0 PUBLISH 0 4294967296 4294967297\\n0 = key 16777216\\n' | poolview words - --explain
 Example: poolrun replay first.json --schedule 0,0 | poolview picture - > first.svg
 
-With --explain a line behind each mistake says where it is and what is wanted there. Where standard error is a terminal
-it is so without the word: --explain=never, or POOL_EXPLAIN=never in the environment, turns it off.",
+With --explain, a line after each error says where it is and what is expected there. This is on by default if standard
+error is a terminal; --explain=never, or POOL_EXPLAIN=never in the environment, turns it off.",
     about: "Shows a trace that `poolrun replay` printed",
     usage: None,
     more: "\
-A file named - is standard input; ./- is the file of that name.
+A FILE of - means standard input; ./- is a file of that name.
 
 Exit status:
-  0    it is done, or help or the version was printed
-  1    a fault, which is a line on standard error; a step that doesn't follow
-  2    a mistake in these words
-  141  nobody reads the output any more, as in `poolview words trace | head`: nothing is said",
+  0    success; help or the version was printed
+  1    a fault, reported on standard error; a step that doesn't follow
+  2    a usage error
+  141  the reader of the output is gone, as in `poolview words trace | head`; nothing is reported",
 };
 
 /// What help says of the status after a view.
 const STATUS: &str =
-    "Exit status: 0 where it is done, 1 after a fault, 2 after a mistake in these words, 141 where nobody reads the output any more";
+    "Exit status: 0 on success, 1 after a fault, 2 after a usage error, 141 if the reader of the output is gone";
 
 /// The file of each subcommand.
 const FILE: Argument<'static> = Argument {
@@ -40,11 +40,25 @@ const FILE: Argument<'static> = Argument {
     help: "The file of the trace, or - for standard input",
 };
 
+/// The option with the first turn that is shown.
+const FROM: Argument<'static> = Argument {
+    kind: Kind::Valued("N"),
+    name: "from",
+    help: "The first turn, counted from 0, as `words --numbers` has them",
+};
+
+/// The option with the number of turns that are shown.
+const TURNS: Argument<'static> = Argument {
+    kind: Kind::Valued("M"),
+    name: "turns",
+    help: "How many turns at most",
+};
+
 /// The option by which mistakes are explained.
 const EXPLAIN: Argument<'static> = Argument {
     kind: Kind::Flag,
     name: "explain",
-    help: "Says on standard error where a mistake is, and what is wanted there. At a terminal it does so by itself: --explain=never, =always or =auto says when",
+    help: "Explains each error on standard error: where it is, and what is expected there. On by default at a terminal; --explain=never, =always or =auto sets when",
 };
 
 /// The subcommand `picture`.
@@ -58,16 +72,8 @@ static PICTURE: Line<'static> = Line {
     },
     arguments: &[
         FILE,
-        Argument {
-            kind: Kind::Valued("N"),
-            name: "from",
-            help: "The first turn, counted from 0, as `words --numbers` has them",
-        },
-        Argument {
-            kind: Kind::Valued("M"),
-            name: "turns",
-            help: "How many turns at most",
-        },
+        FROM,
+        TURNS,
         Argument {
             kind: Kind::Flag,
             name: "fit",
@@ -152,7 +158,7 @@ static PAGE: Line<'static> = Line {
         usage: None,
         more: STATUS,
     },
-    arguments: &[FILE, EXPLAIN],
+    arguments: &[FILE, FROM, TURNS, EXPLAIN],
 };
 
 /// The subcommand `check`.

@@ -3,8 +3,8 @@ ghost use Rattle.std.specs.Prelude.{◌≡◌, map, codes, IfOk, IfErr, string_b
 ghost use Rattle.clap.specs.Words.{found_of, rows_of, subcommand_rows_of};
 ghost use Rattle.commandline.specs.Readings.{text_of};
 ghost use Rattle.commandline.specs.Mistakes.{Tells, wants_explanation};
-ghost use Rattle.commandline.specs.ViewLines.{IsNumber, IsView, AreViewWordsOf, IsViewing};
-ghost use Rattle.commandline.specs.ViewMistakes.{wrong_if_given, wrong_picture, RefusesView, RefusesViewing, RefusesViewWords, IsViewExplained};
+ghost use Rattle.commandline.specs.ViewLines.{AreTurns, IsNumber, IsView, AreViewWordsOf, IsViewing};
+ghost use Rattle.commandline.specs.ViewMistakes.{wrong_if_given, wrong_turns, RefusesView, RefusesViewing, RefusesViewWords, IsViewExplained};
 
 use crate::fault::{TaskFault, mistaken, mistaken_without};
 use crate::mistakes::Reason;
@@ -36,8 +36,11 @@ pub enum View {
     Json,
     /// Its turns in the trace-event form.
     Events,
-    /// A page that shows it turn by turn.
-    Page,
+    /// A page that shows its turns from the first of these on, and so many at most, turn by turn.
+    Page {
+        first: usize,
+        count: usize,
+    },
     /// Whether its steps follow from one another.
     Check,
 }
@@ -78,15 +81,33 @@ fn number_or(
     }
 }
 
-/// The turns of a picture.
-fn picture_of(alloc: Global, matches: &ArgMatches) -> Result<View, TaskFault>
-    ensures ok { IfOk result (IsView (codes "picture") (rows_of (found_of matches.now))) }
-    ensures err { IfErr result (Tells (wrong_picture (rows_of (found_of matches.now)))) }
+/// Which turns are to be shown: the first, and how many at most.
+fn turns_of(alloc: Global, matches: &ArgMatches) -> Result<(usize, usize), TaskFault>
+    ensures ok { IfOk result (λ turns. AreTurns (rows_of (found_of matches.now)) turns.0 turns.1) }
+    ensures err { IfErr result (Tells (wrong_turns (rows_of (found_of matches.now)))) }
 {
     let first = number_or(alloc, Reason::BadFrom, given(matches, "from"), 0)?;
     let count = number_or(alloc, Reason::BadCount, given(matches, "turns"), usize::MAX)?;
+    Ok((first, count))
+}
+
+/// The turns of a picture.
+fn picture_of(alloc: Global, matches: &ArgMatches) -> Result<View, TaskFault>
+    ensures ok { IfOk result (IsView (codes "picture") (rows_of (found_of matches.now))) }
+    ensures err { IfErr result (Tells (wrong_turns (rows_of (found_of matches.now)))) }
+{
+    let (first, count) = turns_of(alloc, matches)?;
     let fit = !is_used(matches, "whole");
     Ok(View::Picture { first, count, fit })
+}
+
+/// The turns of a page.
+fn page_of(alloc: Global, matches: &ArgMatches) -> Result<View, TaskFault>
+    ensures ok { IfOk result (IsView (codes "page") (rows_of (found_of matches.now))) }
+    ensures err { IfErr result (Tells (wrong_turns (rows_of (found_of matches.now)))) }
+{
+    let (first, count) = turns_of(alloc, matches)?;
+    Ok(View::Page { first, count })
 }
 
 /// The words of a trace.
@@ -110,7 +131,7 @@ fn view_of(alloc: Global, name: &str, matches: &ArgMatches) -> Result<View, Task
         "summary" => Ok(View::Summary),
         "json" => Ok(View::Json),
         "events" => Ok(View::Events),
-        "page" => Ok(View::Page),
+        "page" => page_of(alloc, matches),
         "check" => Ok(View::Check),
         _ => Err(mistaken_without(alloc, Reason::Missing)),
     }

@@ -23,7 +23,7 @@ IsShown path (views.Words keys numbers) lines text = text ≡ lines_words keys n
 IsShown path views.Summary lines text = IsSummary lines text
 IsShown path views.Json lines text = text ≡ json_text lines
 IsShown path views.Events lines text = AreEvents lines text
-IsShown path views.Page lines text = IsHtmlPage path lines text
+IsShown path (views.Page first count) lines text = IsHtmlPage path first count lines text
 IsShown path views.Check lines text = AreFollowing lines × (text ≡ follows_text lines)
 
 -- the text shows this of the lines whose text the bytes are, of the file at this path

@@ -50,7 +50,7 @@ fn shown(alloc: Global, viewing: &Viewing, lines: &[Line]) -> Result<Vec<u8>, Fa
         View::Summary => Ok(summary_text(alloc, lines)?),
         View::Json => Ok(turns_json(alloc, lines)?),
         View::Events => Ok(events_text(alloc, lines)?),
-        View::Page => Ok(html_text(alloc, viewing.file, lines)?),
+        View::Page { first, count } => Ok(html_text(alloc, viewing.file, first, count, lines)?),
         View::Check => checked(alloc, lines),
     }
 }

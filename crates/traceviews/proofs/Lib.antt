@@ -5,3 +5,4 @@ pub mod CountLemmas
 pub mod PageLemmas
 pub mod FollowLemmas
 pub mod TurnWords
+pub mod CallLemmas

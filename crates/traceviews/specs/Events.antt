@@ -5,11 +5,13 @@ use Rattle.keybits.specs.Words.{state_in, generation_in}
 use Rattle.keybits.specs.declared.step.Word.{Word}
 use Rattle.keybits.specs.declared.step.Word.TheVariants as words
 use Rattle.traces.specs.Text.{kind_text}
+use Rattle.traceviews.specs.Calls.{lane_calls}
 use Rattle.traceviews.specs.Decoded.{aim_text, is_failed}
 use Rattle.traceviews.specs.Json.{turn_object}
 use Rattle.traceviews.specs.Lines.{kind_of}
 use Rattle.traceviews.specs.Numbered.{numbered}
 use Rattle.traceviews.specs.Summaries.{AreLanes}
+use Rattle.traceviews.specs.Tracks.{track_fields}
 use Rattle.traceviews.specs.Turns.{turns_of, lane_of, behind}
 use Rattle.traceviews.specs.declared.line.Entry.{Entry}
 use Rattle.traceviews.specs.declared.line.Entry.TheVariants as entries
@@ -17,10 +19,6 @@ use Rattle.traceviews.specs.declared.line.Line.{Line}
 use Rattle.traceviews.specs.declared.line.NamedStep.{NamedStep}
 use Rattle.traceviews.specs.declared.line.StepName.{StepName}
 use Rattle.traceviews.specs.declared.line.StepName.TheVariants as names
-
--- the track of a lane, at a turn
-abbrev pub track_fields : ℕ → ℕ → List ℕ
-track_fields lane number = codes ",\"pid\":1,\"tid\":" ++ decimal (lane + 1) ++ (codes ",\"ts\":" ++ decimal number)
 
 -- the name of a lane's track
 abbrev pub lane_event : ℕ → List ℕ
@@ -93,10 +91,11 @@ turn_flow lane number (line ∷ more) = flow_of lane number line.entry
 abbrev pub turn_events : ℕ → List Line → List ℕ
 turn_events number turn = slice_event number turn ++ turn_flow (lane_of turn) number (behind turn)
 
--- the events of a trace with these lanes: a track for each lane, and a slice for each turn
+-- the events of a trace with these lanes: a track for each lane, a slice for each call, lane by lane, and a slice for each turn
 abbrev pub events_of : List ℕ → List Line → List ℕ
 events_of lanes lines =
     codes "[\n{\"ph\":\"M\",\"pid\":1,\"name\":\"process_name\",\"args\":{\"name\":\"pool\"}}" ++ flat_map lane_event lanes
+    ++ flat_map (lane_calls lines) lanes
     ++ numbered turn_events 0 (turns_of lines) ++ codes "\n]\n"
 
 -- the text has the events of a trace

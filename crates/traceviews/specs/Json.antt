@@ -1,5 +1,5 @@
 -- A trace as JSON: an object for each turn.
-use Rattle.std.specs.Prelude.{ℕ, ◌==◌, Bool, true, false, List, [], ◌∷◌, ◌++◌, codes, decimal, if◌then◌else◌}
+use Rattle.std.specs.Prelude.{ℕ, ◌-◌, ◌==◌, ◌&&◌, nat_le, nat_lt, Bool, true, false, List, [], ◌∷◌, ◌++◌, codes, decimal, if◌then◌else◌}
 use Rattle.keybits.specs.Keys.{place_of, generation_of, tag_of}
 use Rattle.keybits.specs.Places.{shard_of}
 use Rattle.keybits.specs.Words.{state_in, count_in, generation_in}
@@ -109,3 +109,16 @@ turn_line number turn = comma_before number ++ codes "\n" ++ turn_object number 
 -- the turns of a trace
 abbrev pub json_text : List Line → List ℕ
 json_text lines = codes "[" ++ numbered turn_line 0 (turns_of lines) ++ codes "\n]\n"
+
+-- a turn is among so many from this one on
+abbrev pub is_within : ℕ → ℕ → ℕ → Bool
+is_within first count number = nat_le first number && nat_lt (number - first) count
+
+-- such a turn on a line of its own, with a comma behind the line before; of another turn nothing
+abbrev pub line_within : ℕ → ℕ → ℕ → List Line → List ℕ
+line_within first count number turn =
+    if is_within first count number then comma_before (number - first) ++ codes "\n" ++ turn_object number turn else []
+
+-- so many turns of a trace from this one on
+abbrev pub window_text : ℕ → ℕ → List Line → List ℕ
+window_text first count lines = codes "[" ++ numbered (line_within first count) 0 (turns_of lines) ++ codes "\n]\n"

@@ -7,6 +7,8 @@ pub mod Ends
 pub mod Turns
 pub mod Numbered
 pub mod Json
+pub mod Tracks
+pub mod Calls
 pub mod Events
 pub mod HtmlPages
 pub mod Pictures

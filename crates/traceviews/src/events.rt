@@ -1,11 +1,13 @@
 //! A trace in the trace-event form, which Chrome's viewer and Perfetto open.
 
 ghost use Rattle.std.specs.Prelude.{◌≡◌, ◌++◌, IfOk, flat_map};
-ghost use Rattle.traceviews.specs.Events.{track_fields, lane_event, failed_end, step_title, entry_title, turn_title, slice_event, flow_event, object_of, flow_at, flow_on, flow_of, turn_flow, turn_events, AreEvents};
+ghost use Rattle.traceviews.specs.Events.{lane_event, failed_end, step_title, entry_title, turn_title, slice_event, flow_event, object_of, flow_at, flow_on, flow_of, turn_flow, turn_events, AreEvents};
 ghost use Rattle.traceviews.specs.Numbered.{numbered};
 ghost use Rattle.traceviews.specs.Pages.{Grows};
+ghost use Rattle.traceviews.specs.Tracks.{track_fields};
 ghost use Rattle.traceviews.specs.Turns.{turns_of};
 
+use crate::calls::push_calls;
 use crate::decoded::{is_failed, state_of, step_name};
 use crate::found::lanes_of;
 use crate::json::push_turn;
@@ -16,7 +18,7 @@ use keybits::{Life, State, Word};
 use std::alloc::{AllocError, Global};
 
 /// Appends the track of a lane, at a turn.
-fn push_track(lane: u32, number: usize, out: &mut Page)
+pub(crate) fn push_track(lane: u32, number: usize, out: &mut Page)
     ensures { Grows out.old out.new (track_fields lane number) }
 {
     out.named(",\"pid\":1,\"tid\":", u64::from(lane) + 1);
@@ -183,9 +185,9 @@ fn push_turns(lines: &[Line], out: &mut Page)
     }
 }
 
-/// A trace in the trace-event form: a track for each lane, a slice of one microsecond for each turn, named by its step,
-/// with the turn's object of the JSON view as its arguments, and for each object a flow from its publish to the mark
-/// that clears it.
+/// A trace in the trace-event form: a track for each lane, a slice for each of its calls, from its first step to its last,
+/// with its reply as its arguments, a slice of one microsecond for each turn, named by its step, with the turn's object of
+/// the JSON view as its arguments, and for each object a flow from its publish to the mark that clears it.
 ///
 /// # Errors
 ///
@@ -197,6 +199,7 @@ pub fn events_text(alloc: Global, lines: &[Line]) -> Result<Vec<u8>, AllocError>
     let mut out = Page::new(alloc);
     out.text("[\n{\"ph\":\"M\",\"pid\":1,\"name\":\"process_name\",\"args\":{\"name\":\"pool\"}}");
     push_lanes(lanes.as_slice(), &mut out);
+    push_calls(lanes.as_slice(), lines, &mut out);
     push_turns(lines, &mut out);
     out.text("\n]\n");
     out.finish()

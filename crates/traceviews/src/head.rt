@@ -36,6 +36,7 @@ text { font: 12px ui-monospace, SFMono-Regular, Menlo, Consolas, 'DejaVu Sans Mo
 .IDLE { fill: #BBBBBB } .PRESENT { fill: #009E73 } .MARKED { fill: #E69F00 } .RETIRED { fill: #D55E00 } .link { fill: #CC79A7 }
 .arrow { fill: none; stroke: #0072B2; stroke-width: 1.5 } .tip { fill: #0072B2 }
 @media (prefers-color-scheme: dark) {
+svg { background: #0d1117; color-scheme: dark }
 text { fill: #e6edf3 } .faint { fill: #9da7b3 } .number { fill: #9da7b3 } .reply { fill: #56B4E9 } .fail { fill: #ff9d5c } .in, .along { fill: #000000 }
 .page { fill: #0d1117 } .cut { stroke: #0d1117 } .IDLE { fill: #8b949e } .lane { stroke: #30363d } .box { fill: #161b22; stroke: #6e7681 } .failed { fill: #161b22 }
 .arrow { stroke: #56B4E9 } .tip { fill: #56B4E9 }

@@ -1,13 +1,14 @@
 //! A page that shows a trace turn by turn: its data is the JSON of the trace, and the rest is the same for each.
 
 ghost use Rattle.std.specs.Prelude.{IfOk, flat_map};
-ghost use Rattle.traceviews.specs.HtmlPages.{IsHtmlPage, html_code, title_text};
+ghost use Rattle.traceviews.specs.HtmlPages.{IsHtmlPage, data_text, html_code, title_text};
 ghost use Rattle.traceviews.specs.Pages.{Grows};
 
-use crate::json::push_json;
+use crate::json::push_window;
 use crate::line::Line;
 use crate::page::Page;
 use crate::template::{body, head, script, style};
+use crate::turns::turn_count;
 use std::alloc::{AllocError, Global};
 
 /// Appends a byte of a text within an element.
@@ -40,15 +41,35 @@ fn push_title(name: &str, out: &mut Page)
     out.text("</title>");
 }
 
-/// A trace as an HTML page, which needs no network: its turns with the lanes and who finds what another left, what each
-/// step changed, the places and who holds them, the returned ones, and the commands of each lane as its replies tell
-/// them. Its title is the name of the trace.
+/// Appends the element with so many turns of a trace from this one on, and how many it has in all.
+fn push_data(first: usize, count: usize, lines: &[Line], out: &mut Page)
+    ensures { Grows out.old out.new (data_text first count lines.now) }
+{
+    out.named(
+        "<script type='application/json' id='trace' data-turns='",
+        turn_count(lines) as u64,
+    );
+    out.text("'>\n");
+    push_window(first, count, lines, out);
+    out.text("</script>\n");
+}
+
+/// So many turns of a trace from this one on as an HTML page, which needs no network: the turns with the lanes and who
+/// finds what another left, which call each step is of and how far that has come, what a step changed, the places and who
+/// holds them, the returned ones, and the commands of each lane as its replies tell them. Its title is the name of the
+/// trace.
 ///
 /// # Errors
 ///
 /// `AllocError` where memory is refused.
-pub fn html_text(alloc: Global, name: &str, lines: &[Line]) -> Result<Vec<u8>, AllocError>
-    ensures { IfOk result (λ text. IsHtmlPage name.now lines.now text.items) }
+pub fn html_text(
+    alloc: Global,
+    name: &str,
+    first: usize,
+    count: usize,
+    lines: &[Line],
+) -> Result<Vec<u8>, AllocError>
+    ensures { IfOk result (λ text. IsHtmlPage name.now first count lines.now text.items) }
 {
     let mut out = Page::new(alloc);
     out.text("<!DOCTYPE html>\n");
@@ -56,7 +77,7 @@ pub fn html_text(alloc: Global, name: &str, lines: &[Line]) -> Result<Vec<u8>, A
     push_title(name, &mut out);
     out.text(style());
     out.text(body());
-    push_json(lines, &mut out);
+    push_data(first, count, lines, &mut out);
     out.text(script());
     out.text("</html>\n");
     out.finish()

@@ -1,7 +1,7 @@
 //! A trace as JSON: an object for each turn.
 
 ghost use Rattle.std.specs.Prelude.{◌≡◌, ◌++◌, IfOk, codes};
-ghost use Rattle.traceviews.specs.Json.{life_object, link_object, value_object, failed_field, step_object, plain_object, key_object, content_object, reply_object, entry_object, comma_before, item_text, items_text, step_fields, turn_object, turn_line, json_text};
+ghost use Rattle.traceviews.specs.Json.{life_object, link_object, value_object, failed_field, step_object, plain_object, key_object, content_object, reply_object, entry_object, comma_before, item_text, items_text, step_fields, turn_object, turn_line, json_text, is_within, line_within, window_text};
 ghost use Rattle.traceviews.specs.Numbered.{numbered};
 ghost use Rattle.traceviews.specs.Pages.{Grows};
 ghost use Rattle.traceviews.specs.Turns.{turns_of};
@@ -128,7 +128,7 @@ fn push_reply(reply: &Reply, out: &mut Page)
 }
 
 /// Appends an entry.
-fn push_entry(entry: &Entry, out: &mut Page)
+pub(crate) fn push_entry(entry: &Entry, out: &mut Page)
     ensures { Grows out.old out.new (entry_object entry.now) }
 {
     match entry {
@@ -228,11 +228,51 @@ fn push_turns(lines: &[Line], out: &mut Page)
 }
 
 /// Appends a trace as JSON.
-pub(crate) fn push_json(lines: &[Line], out: &mut Page)
+fn push_json(lines: &[Line], out: &mut Page)
     ensures { Grows out.old out.new (json_text lines.now) }
 {
     out.text("[");
     push_turns(lines, out);
+    out.text("\n]\n");
+}
+
+/// Whether a turn is among so many from this one on.
+fn is_within(first: usize, count: usize, number: usize) -> bool
+    ensures { result ≡ is_within first count number }
+{
+    first <= number && number - first < count
+}
+
+/// Appends a turn, on a line of its own, where it is among so many from this one on.
+fn push_line_within(first: usize, count: usize, number: usize, turn: &[Line], out: &mut Page)
+    ensures { Grows out.old out.new (line_within first count number turn.now) }
+{
+    if is_within(first, count, number) {
+        out.text(comma_before(number.saturating_sub(first)));
+        out.text("\n");
+        push_turn(number, turn, out);
+    }
+}
+
+/// Appends those turns of some lines that are among so many from this one on.
+fn push_turns_within(first: usize, count: usize, lines: &[Line], out: &mut Page)
+    ensures { Grows out.old out.new (numbered (line_within first count) 0 (turns_of lines.now)) }
+{
+    let mut number = 0;
+    let mut rest = lines;
+    while let Some((turn, behind)) = split_turn(rest) {
+        push_line_within(first, count, number, turn, out);
+        number += 1;
+        rest = behind;
+    }
+}
+
+/// Appends so many turns of a trace from this one on as JSON.
+pub(crate) fn push_window(first: usize, count: usize, lines: &[Line], out: &mut Page)
+    ensures { Grows out.old out.new (window_text first count lines.now) }
+{
+    out.text("[");
+    push_turns_within(first, count, lines, out);
     out.text("\n]\n");
 }
 

@@ -10,13 +10,14 @@
 //! - The picture: `rows` has its turns, `picture` draws them; `numbers` finds a lane or place among sorted ones;
 //!   `strips` draws places, `arrows` who finds what another left, `boxes` a turn, `head` the title and the legend,
 //!   `shapes` the elements of SVG.
-//! - For other tools: `json`, the turns as JSON, and `events`, in the trace-event form. The HTML page: `html`, with
+//! - For other tools: `json`, the turns as JSON, and `events`, in the trace-event form, with the slices of `calls`. The HTML page: `html`, with
 //!   what is the same for each in `template`.
 //! - What they write to: `page`, a text that remembers a refusal of memory; it has words and places as text.
 #![tactic(auto)]
 
 mod arrows;
 mod boxes;
+mod calls;
 mod counts;
 mod decoded;
 mod ends;

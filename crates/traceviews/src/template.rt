@@ -15,7 +15,7 @@ const STYLE: &str = "
   color-scheme: light dark;
   --page: #ffffff; --ink: #1f2328; --faint: #57606a; --line: #d0d7de; --box: #f6f8fa;
   --now: #fff3bf; --change: #ffd29e; --blue: #005a9c; --fail: #9a3b00; --arrow: #6e7781;
-  --row: 44px; --pitch: 14px; --graph: 60px;
+  --row: 44px; --pitch: 14px; --graph: 60px; --bar: 0px;
 }
 @media (prefers-color-scheme: dark) {
   :root:not([data-theme='light']) {
@@ -43,13 +43,19 @@ a { color: var(--blue) }
 :focus-visible { outline: 2px solid var(--blue); outline-offset: -1px }
 ::placeholder { color: var(--faint); opacity: 1 }
 #slider { flex: 1 1 160px; min-width: 90px; padding: 0 } #search { width: 200px; max-width: 100%; flex: 0 1 200px }
+html { scroll-padding-top: calc(var(--bar) + 28px) }
 #where, #found { white-space: nowrap } #where { min-width: 12em }
 main { flex: 1; min-height: 0; display: grid; grid-template-columns: minmax(430px, 6fr) minmax(330px, 5fr) minmax(260px, 4fr); overflow: hidden }
 section { min-width: 0 } .part { padding: 8px 12px; border-bottom: 1px solid var(--line); overflow-wrap: anywhere }
 .column { min-width: 0; min-height: 0; overflow-y: auto; contain: strict; border-left: 1px solid var(--line) }
+#middle { display: flex; flex-direction: column } #middle > *, #now > * { flex: none } #now { display: contents }
+#now section { order: 2 } #now section:first-child { order: 0 } #call { order: 1 } #legend { order: 3 }
 #spots, #returned { max-height: 38vh; overflow-y: auto }
 #trail { display: flex; flex-direction: column; min-height: 0 }
-.titles { flex: none; display: flex; padding: 4px 0; border-bottom: 1px solid var(--line); color: var(--faint) }
+#marks { flex: none; display: flex; flex-wrap: wrap; gap: 0 8px; margin: 0; padding: 4px 12px; color: var(--faint); white-space: nowrap }
+#marks i { display: inline-block; width: 10px; height: 10px; margin-right: 4px; border-radius: 5px; vertical-align: -1px }
+#marks .link { background: var(--blue) } #marks .failed { border: 2px solid var(--fail) }
+.titles { flex: none; display: flex; padding: 4px 0; border-bottom: 1px solid var(--line); color: var(--faint); background: var(--page) }
 .titles svg { flex: none }
 #list { flex: 1; min-height: 0; overflow-y: auto; position: relative; contain: strict }
 #rows { position: relative; margin: 0 } #graph { position: absolute; left: 52px; z-index: 1; pointer-events: none; overflow: hidden }
@@ -71,6 +77,7 @@ mark { background: var(--change); color: inherit; border-radius: 3px; padding: 0
 .IDLE { background: #bbbbbb } .PRESENT { background: #009e73 } .MARKED { background: #e69f00 } .RETIRED { background: #d55e00 }
 dl { margin: 0; display: grid; grid-template-columns: max-content 1fr; gap: 2px 8px } dt { font-weight: bold } dd { margin: 0 }
 ol { margin: 0 0 8px; padding-left: 48px } li.done { background: var(--now) } li.later { color: var(--faint); font-style: italic }
+#code { padding-left: 24px; margin: 0 } #code li.now { background: var(--now); font-weight: bold } #code li.not { color: var(--faint) } #code a { margin-left: 8px }
 .lane { stroke: var(--line) } .arrow { stroke: var(--arrow); fill: none } .arrow.here { stroke: var(--blue); stroke-width: 2 }
 .tip { fill: var(--arrow) } .tip.here { fill: var(--blue) }
 .dot { stroke: var(--page) } .dot.failed { fill: var(--page); stroke: var(--fail); stroke-width: 2 } .dot.here { stroke: var(--ink); stroke-width: 2 }
@@ -82,11 +89,12 @@ ol { margin: 0 0 8px; padding-left: 48px } li.done { background: var(--now) } li
 }
 @media (max-width: 720px) {
   body { height: auto; min-height: 100vh } .wide { display: none }
-  header { position: sticky; top: 0; z-index: 2; background: var(--page); padding: 4px 8px }
+  header { position: sticky; top: 0; z-index: 3; background: var(--page); padding: 4px 8px }
+  .titles { position: sticky; top: var(--bar); z-index: 2 } #marks { padding: 4px 8px; gap: 0 6px } #marks i { margin-right: 3px }
   h1 { flex: 1 1 0; min-width: 0; margin: 0 } .break { flex-basis: 100% }
   #slider { flex: 1 1 100px } #search { flex: 1 1 80px; width: 80px }
   main { display: flex; flex-direction: column; overflow: visible } .part { padding: 6px 8px } .column { border-left: 0; overflow: visible; contain: none }
-  #middle { display: contents } #now { order: 1 } #trail { order: 2 } #commands { order: 3 } #legend { order: 4 }
+  #middle { display: contents } #now { display: block; order: 1 } #trail { order: 2 } #call { order: 3 } #commands { order: 4 } #legend { order: 5 }
   #list { flex: none; height: 50vh } #spots { max-height: 150px } #returned { max-height: 90px } .values { width: 104px; padding: 0 4px }
   .number { width: 36px } #graph { left: 40px }
 }
@@ -106,7 +114,7 @@ const BODY: &str = "<body>
 <button id='last' title='to the last turn (End)' aria-label='to the last turn'>&gt;|</button>
 <input id='slider' type='range' min='0' value='0' aria-label='turn'>
 <span class='break'></span>
-<input id='search' type='search' placeholder='search (/): a step, command, reply, key' aria-label='search steps, commands, replies and keys'>
+<input id='search' type='search' placeholder='search (/)' title='a step, command, reply or key; Enter and Escape leave the search, n and N go on' aria-label='search steps, commands, replies and keys'>
 <button id='before' title='the one before that is found (N)' aria-label='the one before that is found'>&uarr;</button>
 <button id='after' title='the next that is found (n)' aria-label='the next that is found'>&darr;</button>
 <output id='found' class='faint'></output>
@@ -114,7 +122,8 @@ const BODY: &str = "<body>
 </header>
 <main>
 <section id='trail' aria-label='turns'>
-<div class='titles'><span class='number'>turn</span><svg id='lanes' height='17' aria-hidden='true'></svg><span class='what'><span class='wide'>lane, </span>step, replies</span><span class='values'>found, left</span></div>
+<p id='marks'><span><i class='IDLE'></i>IDLE</span><span><i class='PRESENT'></i>PRESENT</span><span><i class='MARKED'></i>MARKED</span><span><i class='RETIRED'></i>RETIRED</span><span><i class='link'></i>link</span><span><i class='failed'></i>failed</span><span class='wide'>&rarr; to who finds it</span></p>
+<div class='titles'><span class='number'>turn</span><svg id='lanes' height='17' aria-hidden='true'></svg><span class='what'><span class='wide'>lane, </span>step, call, replies</span><span class='values'>found, left</span></div>
 <div id='list' tabindex='-1'><div id='rows' role='listbox' aria-label='turns'></div><svg id='graph' aria-hidden='true'></svg></div>
 </section>
 <div id='middle' class='column'>
@@ -123,6 +132,7 @@ const BODY: &str = "<body>
 <section class='part'><h2>Places, and who holds them</h2><div id='spots'><table><thead><tr><th>place</th><th>state</th><th class='right'>count</th><th class='right'>generation</th><th>held by</th></tr></thead><tbody id='places'></tbody></table></div></section>
 <section class='part'><h2>Returned places, and taken ones</h2><div id='returned'><table><tbody id='chains'></tbody></table></div></section>
 </div>
+<section id='call' class='part'><h2 id='called'></h2><ol id='code'></ol></section>
 <div id='legend'>
 <section class='part'><h2>Steps</h2><dl id='steps'></dl></section>
 <section class='part'><h2>States, and other words</h2><dl id='words'></dl></section>
@@ -131,15 +141,20 @@ const BODY: &str = "<body>
 <div id='commands' class='column'><section class='part'><h2>Commands of each lane</h2><div id='scripts'></div></section></div>
 </main>
 <noscript>The turns of the trace are shown by a script, which is in this file.</noscript>
-<script type='application/json' id='trace'>
 ";
 
 /// The page behind its data.
-const SCRIPT: &str = "</script>
-<script>
+const SCRIPT: &str = "<script>
 'use strict';
-const turns = JSON.parse(document.getElementById('trace').textContent);
 const at = id => document.getElementById(id);
+
+// The data has a line for each turn, and a turn is read when it is wanted. The first may be a later one of the trace: turns are counted from
+// there, and shown by their numbers in the trace.
+const lines = at('trace').textContent.split('\\n').filter(line => line.startsWith('{'));
+const count = lines.length, whole = Number(at('trace').dataset.turns);
+const readTurn = line => JSON.parse(line.endsWith(',') ? line.slice(0, -1) : line);
+const first = count > 0 ? readTurn(lines[0]).turn : 0;
+const numberOf = index => first + index;
 
 // What the words mean.
 const STEPS = {
@@ -186,35 +201,45 @@ function commandOf(reply, own) {
     case 'content': return 'read';
     case 'true': case 'false': return 'clear';
     case 'ok': return own ? 'release' : 'write';
+    case 'memory': return own ? 'create' : 'a command';
     default: return 'a command';
   }
 }
 const withCommand = (reply, own) => `${commandOf(reply, own)} = ${replyText(reply)}`;
 
-// What is said of each turn: its replies with their commands, and the text that a search looks through.
-const commands = new Map();
-const said = turns.map(turn => {
-  const before = turn.before.map(reply => withCommand(reply, null));
-  const after = turn.after.map((reply, index) => withCommand(reply, index === 0 ? turn.step : null));
-  if (!commands.has(turn.lane)) commands.set(turn.lane, []);
-  for (const text of before.concat(after)) commands.get(turn.lane).push({ turn: turn.turn, text });
-  return { before, after };
-});
-const keys = list => list.filter(reply => reply.key).map(reply => `key ${reply.key}`);
-const sought = turns.map((turn, index) => [
-  `lane ${turn.lane}`, ...said[index].before, turn.step ? stepText(turn.step) : '', ...said[index].after, ...keys(turn.before), ...keys(turn.after),
-  turn.step ? `${turn.step.found.word} ${turn.step.left.word}` : '',
-].join(' ').toLowerCase());
-const lanes = Array.from(commands.keys()).sort((a, b) => a - b);
-
-// Which turn of another lane left what a turn finds, and which turns find what it left.
+// What is learnt of the turns, one after another: the turn, its replies with their commands, the call that its step is of, the turn of another
+// lane that left what it finds, and those that find what it left. Later turns are learnt while the page is seen already.
+const laneIn = line => Number(line.split(',', 2)[1].slice(7));
+const lanes = Array.from(new Set(lines.map(laneIn))).sort((a, b) => a - b);
+const turns = [], said = [], calls = [], places = [], source = [], finders = [];
+const commands = new Map(lanes.map(lane => [lane, []]));
 const isStack = step => step.at.includes('.');
 const wordOf = step => step.found.state || isStack(step) ? step.at : `link ${step.at}`;
-const source = new Array(turns.length).fill(-1);
-const finders = turns.map(() => []);
-const writers = new Map();
-turns.forEach((turn, index) => {
+const writers = new Map(), calling = new Map(), seen = new Set();
+let tag = null;
+function learnReplies(turn) {
+  const before = turn.before.map(reply => withCommand(reply, null));
+  const after = turn.after.map((reply, index) => withCommand(reply, index === 0 ? turn.step : null));
+  for (const text of before.concat(after)) commands.get(turn.lane).push({ index: said.length, text });
+  for (const reply of turn.before.concat(turn.after)) if (reply.key) tag = reply.tag;
+  said.push({ before, after });
+}
+// A call begins with the first step of its lane behind a reply, and ends with the step that has one behind it. One that was under way before the
+// first turn that is here can lack steps; none goes on with an ENTER or a PUBLISH.
+function learnCall(index, turn) {
+  const cut = first > 0 && !seen.has(turn.lane) && turn.step && !['ENTER', 'PUBLISH'].includes(turn.step.kind);
+  if (turn.step) seen.add(turn.lane);
+  const call = turn.step ? calling.get(turn.lane) || { lane: turn.lane, steps: [], reply: null, cut } : null;
+  calls.push(call);
+  places.push(call ? call.steps.push(index) : 0);
+  if (!call) return;
+  if (turn.after.length > 0) call.reply = turn.after[0];
+  if (call.reply) calling.delete(turn.lane); else calling.set(turn.lane, call);
+}
+function learnSource(index, turn) {
   const step = turn.step;
+  source.push(-1);
+  finders.push([]);
   if (!step) return;
   const writer = writers.get(wordOf(step));
   if (writer !== undefined && turns[writer].lane !== turn.lane) {
@@ -222,18 +247,67 @@ turns.forEach((turn, index) => {
     finders[writer].push(index);
   }
   if (step.found.word !== step.left.word || step.kind === 'LINK') writers.set(wordOf(step), index);
-});
+}
+function learn() {
+  const index = turns.length, turn = readTurn(lines[index]);
+  turns.push(turn);
+  learnReplies(turn);
+  learnCall(index, turn);
+  learnSource(index, turn);
+}
+function learnTo(end) {
+  while (turns.length < Math.min(end, count)) learn();
+}
+const isLearnt = () => turns.length === count;
 
-// What is known behind a turn: of each place its word, who has entered and not left, and who fills; the links of places, the first of each stack,
-// and the first of the chain that each lane took.
-const EVERY = 256;
+// The call of a step: its name, its key as far as its steps tell it, and how far it has come. An ENTER tells the generation of a key only where it
+// hits; a MARK and the LEAVE of a reference always do.
+const stepsOf = call => call.steps.map(index => turns[index].step);
+function nameOf(call) {
+  if (call.reply) return commandOf(call.reply, turns[call.steps[call.steps.length - 1]].step);
+  const steps = stepsOf(call), has = kind => steps.some(step => step.kind === kind);
+  if (has('MARK')) return 'clear';
+  if (has('ENTER')) return 'get or clear';
+  if (has('TAKE') || has('FOLLOW')) return 'create';
+  return steps[0].kind === 'LEAVE' && !call.cut ? 'release' : 'a call';
+}
+function keyOf(call) {
+  if (call.reply && call.reply.key) return call.reply;
+  const steps = stepsOf(call), isGet = call.reply && call.reply.reply === 'some';
+  const sure = steps.find(step => step.kind === 'MARK' || step.kind === 'ENTER' && isGet) || (nameOf(call) === 'release' && steps.find(step => step.kind === 'LEAVE'));
+  if (sure) return { place: sure.at, generation: sure.found.generation };
+  const enter = steps.find(step => step.kind === 'ENTER');
+  return enter ? { place: enter.at } : null;
+}
+function keyNumber(key) {
+  if (tag === null || key.generation === undefined) return null;
+  const [shard, page, slot] = key.place.split('/').map(BigInt);
+  return (BigInt(tag) << 56n) + (BigInt(key.generation) << 24n) + (shard << 16n) + (page << 12n) + slot;
+}
+function ofKey(key) {
+  if (key === null) return '';
+  if (key.generation === undefined) return ` of a key of ${key.place}`;
+  const number = keyNumber(key);
+  return ` of ${number === null ? 'the key' : `key ${number}`}, ${key.place} generation ${key.generation}`;
+}
+function progressOf(index) {
+  const call = calls[index], step = places[index];
+  if (call.cut) return `, step ${step} since turn ${numberOf(call.steps[0])}`;
+  if (call.reply) return `, step ${step} of ${call.steps.length}`;
+  return `, step ${step}` + (!isLearnt() ? '' : numberOf(count) < whole ? `, no reply up to turn ${numberOf(count - 1)}` : ', unfinished');
+}
+const stepOfCall = index => nameOf(calls[index]) + progressOf(index);
+
+// What is known behind a turn: of each place its word, who has entered and not left, who fills it, and with whom it is otherwise; the links of
+// places, the first of each stack, and the first of the chain that each lane took.
+const EVERY = 1024;
 const nothing = () => ({ places: new Map(), links: new Map(), stacks: new Map(), taken: new Map() });
 const copy = known => ({
-  places: new Map(Array.from(known.places, ([place, of]) => [place, { word: of.word, held: new Map(of.held), filling: of.filling }])),
+  places: new Map(Array.from(known.places, ([place, of]) => [place, { ...of, held: new Map(of.held) }])),
   links: new Map(known.links), stacks: new Map(known.stacks), taken: new Map(known.taken),
 });
 function placeIn(known, place) {
-  if (!known.places.has(place)) known.places.set(place, { word: null, held: new Map(), filling: null });
+  if (!known.places.has(place)) known.places.set(place, { word: null, held: new Map(), filling: null, keeper: null });
   return known.places.get(place);
 }
 function hold(of, lane, more) {
@@ -245,6 +319,7 @@ function applyLife(of, turn) {
   of.word = step.left;
   if (step.kind === 'ENTER') hold(of, turn.lane, 1);
   if (step.kind === 'LEAVE') hold(of, turn.lane, -1);
+  if (step.kind === 'CLAIM' && !step.failed && step.left.state !== 'RETIRED') of.keeper = turn.lane;
   if (step.kind === 'PUBLISH') {
     of.filling = null;
     if (step.left.count > step.found.count) hold(of, turn.lane, 1);
@@ -256,22 +331,27 @@ function applyStep(known, turn) {
   if (step.kind === 'LINK') known.links.set(step.at, step.left.link);
   if (isStack(step)) known.stacks.set(step.at, step.left.link);
   if (step.kind === 'TAKE' && step.found.link !== 'end') known.taken.set(turn.lane, step.found.link);
-  if (step.kind === 'FOLLOW') known.taken.set(turn.lane, step.found.link);
+  if (step.kind === 'PUSH' && !step.failed) placeIn(known, step.left.link).keeper = null;
+  if (step.kind === 'FOLLOW') {
+    known.taken.set(turn.lane, step.found.link);
+    placeIn(known, step.at).keeper = turn.lane;
+  }
 }
 function apply(known, turn) {
-  const fills = reply => { if (reply.reply === 'filling') placeIn(known, reply.place).filling = turn.lane; };
+  const fills = reply => { if (reply.reply === 'filling') Object.assign(placeIn(known, reply.place), { filling: turn.lane, keeper: null }); };
   turn.before.forEach(fills);
   if (turn.step) applyStep(known, turn);
   turn.after.forEach(fills);
 }
-const marks = [];
-const running = nothing();
-turns.forEach((turn, index) => {
-  if (index % EVERY === 0) marks.push(copy(running));
-  apply(running, turn);
-});
+const marks = [copy(nothing())];
 function knownBehind(turn) {
   const mark = Math.floor(turn / EVERY);
+  learnTo(turn + 1);
+  while (marks.length <= mark) {
+    const running = copy(marks[marks.length - 1]);
+    for (const each of turns.slice((marks.length - 1) * EVERY, marks.length * EVERY)) apply(running, each);
+    marks.push(running);
+  }
   const known = copy(marks[mark]);
   for (let index = mark * EVERY; index <= turn; index++) apply(known, turns[index]);
   return known;
@@ -286,14 +366,14 @@ function add(parent, name, text, kind) {
   return made;
 }
 function addLink(parent, turn, text) {
-  add(parent, 'a', text).href = `#${turn}`;
+  add(parent, 'a', text).href = `#${numberOf(turn)}`;
 }
 function addState(parent, value) {
   add(parent, 'span', value.state, `state ${value.state}`);
 }
 
 // The list: of its rows only those are made that are seen, and the one that is shown, which the keyboard reaches.
-const ROW = 44, AROUND = 4;
+const ROW = 44, AROUND = 4, AHEAD = 200;
 const pitch = Math.max(5, Math.min(18, Math.floor((innerWidth > 720 ? 190 : 90) / Math.max(1, lanes.length))));
 const columns = new Map(lanes.map((lane, index) => [lane, pitch * index + pitch / 2 + 2]));
 const width = pitch * lanes.length + 6;
@@ -307,17 +387,22 @@ function addValue(parent, value, other) {
     add(line, text === was ? 'span' : 'mark', text);
   });
 }
+function addCall(parent, index) {
+  const line = add(parent, 'span', nameOf(calls[index]), 'faint'), key = keyOf(calls[index]);
+  if (key && key.generation !== undefined) add(line, 'span', ` ${key.place} g${key.generation}`, 'wide');
+  line.append(progressOf(index));
+}
 function makeRow(index) {
   const turn = turns[index], step = turn.step;
   const row = document.createElement('div');
   row.className = 'turn';
-  row.id = `turn${index}`;
+  row.id = `turn${numberOf(index)}`;
   row.style.top = `${index * ROW}px`;
   row.setAttribute('role', 'option');
-  row.setAttribute('aria-setsize', turns.length);
+  row.setAttribute('aria-setsize', count);
   row.setAttribute('aria-posinset', index + 1);
   row.onclick = () => { go(index); row.focus({ preventScroll: true }); };
-  add(row, 'span', index, 'number');
+  add(row, 'span', numberOf(index), 'number');
   add(row, 'span', undefined, 'gap');
   const what = add(row, 'div', undefined, 'what');
   const first = add(what, 'div');
@@ -328,8 +413,11 @@ function makeRow(index) {
     first.append(` ${step.at} `);
     if (step.failed) add(first, 'span', 'failed', 'fail');
   }
-  const replies = said[index].before.concat(said[index].after);
-  if (replies.length > 0) add(what, 'div', replies.join(', '), 'reply');
+  const line = add(what, 'div');
+  if (step) addCall(line, index);
+  const replies = turn.after.map((reply, place) => step && place === 0 ? `= ${replyText(reply)}` : said[index].after[place]);
+  if (turn.before.length > 0) replies.push((step ? 'before it ' : '') + said[index].before.join(', '));
+  if (replies.length > 0) add(line, 'span', ` ${replies.join(', ')}`, 'reply');
   const values = add(row, 'div', undefined, 'values');
   if (step) {
     addValue(values, step.found, step.found);
@@ -340,26 +428,27 @@ function makeRow(index) {
 function markRow(row, index) {
   const here = index === now;
   row.classList.toggle('now', here);
-  row.classList.toggle('match', wanted !== '' && isFound(sought[index]));
+  row.classList.toggle('match', matching.has(index));
   row.tabIndex = here ? 0 : -1;
   row.setAttribute('aria-selected', here);
 }
 function rowsSeen() {
-  const first = Math.max(0, Math.floor(at('list').scrollTop / ROW) - AROUND);
-  const end = Math.min(turns.length, Math.ceil((at('list').scrollTop + at('list').clientHeight) / ROW) + AROUND);
-  return { first, end };
+  const from = Math.max(0, Math.floor(at('list').scrollTop / ROW) - AROUND);
+  const end = Math.min(count, Math.ceil((at('list').scrollTop + at('list').clientHeight) / ROW) + AROUND);
+  return { from, end };
 }
 function drawRows() {
-  const { first, end } = rowsSeen();
+  const { from, end } = rowsSeen();
+  learnTo(end + AHEAD);
   for (const [index, row] of shown) {
-    if (index === now || index >= first && index < end) continue;
+    if (index === now || index >= from && index < end) continue;
     row.remove();
     shown.delete(index);
   }
-  for (let index = first; index < end; index++) showRow(index);
-  if (turns.length > 0) showRow(now);
+  for (let index = from; index < end; index++) showRow(index);
+  if (count > 0) showRow(now);
   for (const [index, row] of shown) markRow(row, index);
-  drawGraph(first, end);
+  drawGraph(from, end);
 }
 function showRow(index) {
   if (shown.has(index)) return;
@@ -386,14 +475,14 @@ function dot(index, top) {
   const kind = !step ? 'none' : step.failed ? 'failed' : step.left.state || 'link';
   return `<circle class='dot ${kind}${index === now ? ' here' : ''}' cx='${columns.get(turns[index].lane)}' cy='${middle(index) - top}' r='${step ? RADIUS : 3}'/>`;
 }
-function drawGraph(first, end) {
-  const top = first * ROW, height = Math.max(0, end - first) * ROW;
+function drawGraph(begin, end) {
+  const top = begin * ROW, height = Math.max(0, end - begin) * ROW;
   const parts = lanes.map(lane => `<path class='lane' d='M${columns.get(lane)} 0V${height}'/>`);
-  for (let index = first; index < end; index++) {
+  for (let index = begin; index < end; index++) {
     if (source[index] >= 0) parts.push(arrow(source[index], index, top));
     for (const finder of finders[index]) if (finder >= end) parts.push(arrow(index, finder, top));
   }
-  for (let index = first; index < end; index++) parts.push(dot(index, top));
+  for (let index = begin; index < end; index++) parts.push(dot(index, top));
   const graph = at('graph');
   graph.setAttribute('width', width);
   graph.setAttribute('height', height);
@@ -405,9 +494,14 @@ function drawTitles() {
   const every = pitch >= 14 ? 1 : pitch >= 9 ? 2 : 4;
   at('lanes').innerHTML = lanes.map((lane, index) => index % every === 0 ? `<text class='lanes' x='${columns.get(lane)}' y='13'>${lane}</text>` : '').join('');
 }
-// Scrolls the list so that the turn is seen: a little where it is near, else to the middle.
+// Scrolls the list so that the turn is seen: a little where it is near, else to the middle. Where the list goes on below the window, by what the
+// window has of it.
+function heightSeen(list) {
+  const within = innerHeight - list.getBoundingClientRect().top;
+  return within > 3 * ROW ? Math.min(list.clientHeight, within) : list.clientHeight;
+}
 function scrollTo(turn) {
-  const list = at('list'), top = turn * ROW, height = list.clientHeight, edge = Math.min(ROW, height / 4);
+  const list = at('list'), top = turn * ROW, height = heightSeen(list), edge = Math.min(ROW, height / 4);
   const above = list.scrollTop - (top - edge), below = top + ROW + edge - (list.scrollTop + height);
   if (above <= 0 && below <= 0) return;
   if (Math.max(above, below) > height) list.scrollTop = top - height / 2 + ROW / 2;
@@ -439,21 +533,21 @@ function addReplies(parent, list) {
 function addSources(parent, index) {
   if (source[index] >= 0) {
     const line = add(parent, 'p', `It finds what lane ${turns[source[index]].lane} left in `);
-    addLink(line, source[index], `turn ${source[index]}`);
+    addLink(line, source[index], `turn ${numberOf(source[index])}`);
   }
   if (finders[index].length > 0) {
     const line = add(parent, 'p', 'Found by ');
     finders[index].slice(0, 5).forEach((finder, number) => {
       if (number > 0) line.append(', ');
       line.append(`lane ${turns[finder].lane} in `);
-      addLink(line, finder, `turn ${finder}`);
+      addLink(line, finder, `turn ${numberOf(finder)}`);
     });
     if (finders[index].length > 5) line.append(` and ${finders[index].length - 5} more`);
   }
 }
 function drawTurn() {
   const turn = turns[now], parent = at('step');
-  at('turn').textContent = `Turn ${now}, lane ${turn.lane}`;
+  at('turn').textContent = `Turn ${numberOf(now)}, lane ${turn.lane}` + (turn.step ? `: ${stepOfCall(now)}` : '');
   parent.replaceChildren();
   addReplies(parent, said[now].before);
   if (turn.step) {
@@ -463,14 +557,64 @@ function drawTurn() {
     add(line, 'span', `${turn.step.kind}: ${STEPS[turn.step.kind]}`, 'faint');
   }
   addReplies(parent, said[now].after);
+  if (turn.before.concat(turn.after).some(reply => reply.reply === 'skip')) add(parent, 'p', skipReason(turn.lane), 'faint');
   if (turn.step) addSources(parent, now);
+}
+
+// Why a command was skipped. Which one it was no trace tells, but only a lane that has something can lack an empty register.
+const has = (known, lane) => Array.from(known.places.values()).some(of => of.filling === lane || of.held.has(lane));
+function skipReason(lane) {
+  const full = first > 0 || has(knownBehind(now), lane) || now > 0 && has(knownBehind(now - 1), lane);
+  return 'skip: the command did nothing, as its register had no filling (write, publish, downgrade), no reference (read, release) or no key to remember (get, clear)'
+    + (full ? ', or was not empty (create, get)' : '');
+}
+
+// The call of the turn's step: what such a call does, a line for each kind of step, with the turns at which this one made it.
+const RETURNS = [
+  ['CLAIM', 'MARKED with count 0 is left: CLAIM the place'],
+  ['LINK', 'it is of another shard: LINK it to what its stack has'],
+  ['PUSH', 'PUSH it; where that fails, LINK and PUSH again'],
+];
+const CODE = {
+  create: [
+    ['TAKE', 'own list and taken chain are empty: TAKE what each lane returned, up to a stack with places'],
+    ['FOLLOW', 'FOLLOW the taken chain to its next place'],
+    ['reply', 'reply filling: a place of the list, of the chain or of a new page; else full'],
+  ],
+  publish: [['PUBLISH', 'PUBLISH the filling'], ['reply', 'reply the key']],
+  downgrade: [['PUBLISH', 'PUBLISH the filling, with a reference'], ['reply', 'reply the key']],
+  get: [['ENTER', 'ENTER the place'], ['hit', 'hit: reply the content, and keep the reference'], ['LEAVE', 'miss: LEAVE'], ...RETURNS, ['miss', 'reply none']],
+  clear: [['ENTER', 'ENTER the place'], ['MARK', 'hit: MARK the key'], ['LEAVE', 'hit or miss: LEAVE'], ...RETURNS, ['reply', 'reply true where the MARK found PRESENT, else false']],
+  release: [['LEAVE', 'LEAVE: the reference is given back'], ...RETURNS, ['reply', 'reply ok']],
+  'get or clear': [['ENTER', 'ENTER the place'], ['hit', 'hit: a get replies, a clear goes on with MARK'], ['LEAVE', 'miss: LEAVE'], ...RETURNS, ['miss', 'reply none, or false']],
+  'a call': [['LEAVE', 'LEAVE'], ...RETURNS],
+};
+function isReply(name, reply) {
+  if (!reply) return false;
+  return name === 'reply' || name === (reply.reply === 'some' ? 'hit' : 'miss');
+}
+function addCode(parent, call, [name, text]) {
+  const line = add(parent, 'li', text);
+  const made = call.steps.filter(index => turns[index].step.kind === name);
+  if (isReply(name, call.reply)) made.push(call.steps[call.steps.length - 1]);
+  for (const index of made) addLink(line, index, `turn ${numberOf(index)}`);
+  line.className = turns[now].step.kind === name ? 'now' : made.length === 0 ? 'not' : made[0] > now ? 'later' : '';
+}
+function drawCall() {
+  const call = calls[now];
+  at('code').replaceChildren();
+  at('called').textContent = call ? `${nameOf(call)}${ofKey(keyOf(call))}` : 'No step, and no call under way';
+  if (call) for (const line of CODE[nameOf(call)] || []) addCode(at('code'), call, line);
 }
 
 // The places, the returned ones, and the commands.
 const MOST = 200;
-function holdersOf(of) {
-  const holders = Array.from(of.held, ([lane, count]) => `lane ${lane}` + (count > 1 ? ` (${count})` : ''));
+function holdersOf(place, of) {
+  const holders = Array.from(of.held, ([lane, times]) => `lane ${lane}` + (times > 1 ? ` (${times})` : ''));
+  const known = Array.from(of.held.values()).reduce((sum, times) => sum + times, 0);
+  if (of.word && of.word.count > known) holders.push(`${of.word.count - known} since before turn ${first}`);
   if (of.filling !== null) holders.unshift(`lane ${of.filling} fills it`);
+  if (of.keeper !== null) holders.unshift(Number(place.split('/')[0]) === of.keeper ? `lane ${of.keeper}, free` : `lane ${of.keeper} returns it`);
   return holders.join(', ');
 }
 function addPlace(body, place, of, step) {
@@ -481,13 +625,13 @@ function addPlace(body, place, of, step) {
   const state = add(row, 'td');
   if (of.word) addState(add(state, changed('state') ? 'mark' : 'span'), of.word); else state.textContent = 'fresh';
   for (const name of ['count', 'generation']) add(add(row, 'td', undefined, 'right'), changed(name) ? 'mark' : 'span', of.word ? of.word[name] : '');
-  add(row, 'td', holdersOf(of));
+  add(row, 'td', holdersOf(place, of));
 }
 function drawPlaces(known) {
   const body = at('places'), step = turns[now].step;
   const here = step && step.left.state ? step.at : null;
   body.replaceChildren();
-  const rank = ([place, of]) => place === here ? 0 : of.filling !== null || of.held.size > 0 ? 1 : 2;
+  const rank = ([place, of]) => place === here ? 0 : of.filling !== null || of.keeper !== null || of.held.size > 0 ? 1 : 2;
   const sorted = Array.from(known.places).sort((a, b) => rank(a) - rank(b) || (a[0] < b[0] ? -1 : 1));
   for (const [place, of] of sorted.slice(0, MOST)) addPlace(body, place, of, place === here ? step : null);
   if (sorted.length > MOST) add(add(body, 'tr'), 'td', `and ${sorted.length - MOST} more`, 'faint').colSpan = 5;
@@ -517,16 +661,25 @@ function drawChains(known) {
     addChain(`taken by lane ${lane}`, first, step && turns[now].lane === lane && (step.kind === 'TAKE' && step.found.link !== 'end' || step.kind === 'FOLLOW'));
   if (body.rows.length === 0) add(add(body, 'tr'), 'td', 'none is on a stack or in a taken chain', 'faint').colSpan = 2;
 }
+// How many of a lane's commands have replied up to this turn.
+function repliesUpTo(list, turn) {
+  let from = 0, end = list.length;
+  while (from < end) {
+    const middle = (from + end) >> 1;
+    if (list[middle].index <= turn) from = middle + 1; else end = middle;
+  }
+  return from;
+}
 function addCommands(parent, lane) {
-  const list = commands.get(lane);
-  let done = list.findIndex(command => command.turn > now);
-  if (done < 0) done = list.length;
-  add(parent, 'h3', `lane ${lane}: ${done} of ${list.length} replies`);
-  const lines = add(parent, 'ol');
-  const from = Math.max(0, done - 4);
-  lines.start = from + 1;
-  list.slice(from, done + 2).forEach((command, index) =>
-    add(lines, 'li', command.text, from + index >= done ? 'later' : command.turn === now ? 'done' : ''));
+  const list = commands.get(lane), done = repliesUpTo(list, now);
+  const from = Math.max(0, done - 4), end = Math.min(list.length, done + 2);
+  add(parent, 'h3', isLearnt() ? `lane ${lane}: ${done} of ${list.length} replies` : `lane ${lane}: ${done} replies`);
+  if (from > 0) add(parent, 'p', `${from} earlier`, 'faint');
+  const shownOnes = add(parent, 'ol');
+  shownOnes.start = from + 1;
+  list.slice(from, end).forEach((command, index) =>
+    add(shownOnes, 'li', command.text, from + index >= done ? 'later' : command.index === now ? 'done' : ''));
+  if (isLearnt() && end < list.length) add(parent, 'p', `${list.length - end} later`, 'faint');
 }
 function drawCommands() {
   at('scripts').replaceChildren();
@@ -543,32 +696,60 @@ function drawLegend() {
 
 // Goes to a turn.
 function go(turn) {
-  if (turns.length === 0) { at('where').textContent = 'no turns'; return; }
+  if (count === 0) { at('where').textContent = whole > 0 ? `none of ${whole} turns` : 'no turns'; return; }
   const within = at('list').contains(document.activeElement);
-  now = Math.max(0, Math.min(turn, turns.length - 1));
-  at('slider').value = now;
-  at('where').textContent = `turn ${now} of 0 to ${turns.length - 1}`;
+  now = Math.max(0, Math.min(turn, count - 1));
+  at('slider').value = numberOf(now);
+  at('where').textContent = `turn ${numberOf(now)} of ${first} to ${numberOf(count - 1)}` + (count < whole ? `, of ${whole} turns` : '');
+  drawState();
   scrollTo(now);
   drawRows();
   if (within) shown.get(now).focus({ preventScroll: true });
-  drawTurn();
-  const known = knownBehind(now);
-  drawPlaces(known);
-  drawChains(known);
-  drawCommands();
   tellFound();
   clearTimeout(keeping);
   keeping = setTimeout(keepTurn, 150);
 }
+function drawState() {
+  learnTo(now + AHEAD);
+  drawTurn();
+  drawCall();
+  const known = knownBehind(now);
+  drawPlaces(known);
+  drawChains(known);
+  drawCommands();
+}
+// Learns the rest of the turns bit by bit. What was drawn before is then drawn once more: an arrow, or the end of a call, may come much later.
+function learnOn() {
+  learnTo(turns.length + 2000);
+  if (!isLearnt()) { setTimeout(learnOn); return; }
+  const within = at('list').contains(document.activeElement);
+  for (const row of shown.values()) row.remove();
+  shown.clear();
+  drawRows();
+  if (within) shown.get(now).focus({ preventScroll: true });
+  drawState();
+}
 // The address keeps the turn: a little later, as browsers refuse many changes of it in a row.
 let keeping = 0;
 function keepTurn() {
-  try { history.replaceState(null, '', `#${now}`); } catch (refused) { }
+  try { history.replaceState(null, '', `#${numberOf(now)}`); } catch (refused) { }
 }
 
-// The search. A number is found whole: turn 1 isn't turn 12.
-let wanted = '';
-let matches = [];
+// The search: the text of a turn that it looks through, and what it finds. A number is found whole: turn 1 isn't turn 12.
+const sought = [];
+const keysIn = list => list.filter(reply => reply.key).map(reply => `key ${reply.key}`);
+function callSought(index) {
+  const call = calls[index], key = call && keyOf(call), number = key && keyNumber(key);
+  return call ? [stepOfCall(index), ...(number ? [`key ${number}`] : [])] : [];
+}
+function makeSought(index) {
+  const turn = turns[index], step = turn.step;
+  return [
+    `lane ${turn.lane}`, ...said[index].before, ...(step ? [stepText(step)] : []), ...said[index].after, ...keysIn(turn.before), ...keysIn(turn.after),
+    ...callSought(index), ...(step ? [step.found.word, step.left.word] : []),
+  ].join(' ').toLowerCase();
+}
+let wanted = '', matches = [], matching = new Set(), origin = 0;
 const isDigit = sign => sign >= '0' && sign <= '9';
 function isFound(text) {
   for (let from = text.indexOf(wanted); from >= 0; from = text.indexOf(wanted, from + 1)) {
@@ -582,11 +763,19 @@ function tellFound() {
   const index = matches.indexOf(now);
   at('found').textContent = wanted === '' ? '' : matches.length === 0 ? 'not found' : `${index < 0 ? '-' : index + 1} of ${matches.length}`;
 }
+// Goes to what is found first from where the search began; where nothing is, back to there.
 function search(words) {
   wanted = words.trim().toLowerCase();
   matches = [];
-  if (wanted !== '') sought.forEach((text, index) => { if (isFound(text)) matches.push(index); });
-  go(matches.find(index => index >= now) ?? matches[0] ?? now);
+  if (wanted !== '') {
+    learnTo(count);
+    for (let index = 0; index < count; index++) {
+      sought[index] ??= makeSought(index);
+      if (isFound(sought[index])) matches.push(index);
+    }
+  }
+  matching = new Set(matches);
+  go(matches.find(index => index >= origin) ?? matches[0] ?? origin);
 }
 // The next that is found, or the one before; behind the last comes the first.
 function seek(by) {
@@ -594,49 +783,67 @@ function seek(by) {
   const next = by > 0 ? matches.find(index => index > now) : matches.findLast(index => index < now);
   go(next ?? (by > 0 ? matches[0] : matches[matches.length - 1]));
 }
+// Leaves the search, which stays as it is, for the turn that is shown.
+function leaveSearch() {
+  at('search').blur();
+  if (count > 0) shown.get(now).focus({ preventScroll: true });
+}
 
 function isDark() {
   const theme = document.documentElement.dataset.theme;
   return theme ? theme === 'dark' : matchMedia('(prefers-color-scheme: dark)').matches;
 }
-const turnInAddress = () => Number(location.hash.slice(1)) || 0;
+const turnInAddress = () => (Number(location.hash.slice(1)) || first) - first;
+const by = turns => () => go(now + turns);
 const KEYS = {
-  ArrowLeft: () => go(now - 1), ArrowRight: () => go(now + 1), PageUp: () => go(now - 10), PageDown: () => go(now + 10),
-  Home: () => go(0), End: () => go(turns.length - 1), n: () => seek(1), N: () => seek(-1), '/': () => at('search').focus(),
+  ArrowLeft: by(-1), ArrowRight: by(1), ArrowUp: by(-1), ArrowDown: by(1), PageUp: by(-10), PageDown: by(10),
+  Home: () => go(0), End: () => go(count - 1), n: () => seek(1), N: () => seek(-1), '/': () => at('search').focus(),
 };
-const IN_LIST = { ArrowUp: () => go(now - 1), ArrowDown: () => go(now + 1) };
+// Whether a key is for the words of the search: all are but those that leave them, and arrows that don't move the caret.
+function isWritten(event) {
+  const { selectionStart, selectionEnd, value } = at('search');
+  if (event.key === 'ArrowLeft') return event.shiftKey || selectionEnd > 0;
+  if (event.key === 'ArrowRight') return event.shiftKey || selectionStart < value.length;
+  return !['Enter', 'Escape', 'ArrowUp', 'ArrowDown', 'PageUp', 'PageDown'].includes(event.key);
+}
 function onKey(event) {
-  if (event.ctrlKey || event.metaKey || event.altKey) return;
-  if (event.target === at('search')) {
-    if (event.key === 'Enter') seek(event.shiftKey ? -1 : 1);
-    if (event.key === 'Escape') at('search').blur();
-    return;
-  }
-  const act = KEYS[event.key] || (at('list').contains(event.target) ? IN_LIST[event.key] : undefined);
-  if (act) { event.preventDefault(); act(); }
+  if (event.ctrlKey || event.metaKey || event.altKey || event.isComposing) return;
+  const searching = event.target === at('search');
+  if (searching && isWritten(event)) return;
+  const leaves = searching && (event.key === 'Enter' || event.key === 'Escape');
+  const act = leaves ? leaveSearch : KEYS[event.key];
+  if (!act) return;
+  event.preventDefault();
+  act();
+  if (searching) origin = now;
 }
 function begin() {
   if (document.title === '-') document.title = 'standard input';
   at('name').textContent = `Trace: ${document.title}`;
-  at('slider').max = Math.max(0, turns.length - 1);
-  at('slider').oninput = event => go(Number(event.target.value));
+  at('slider').min = first;
+  at('slider').max = numberOf(Math.max(0, count - 1));
+  at('slider').oninput = event => go(Number(event.target.value) - first);
   at('first').onclick = () => go(0);
   at('back').onclick = () => go(now - 1);
   at('next').onclick = () => go(now + 1);
-  at('last').onclick = () => go(turns.length - 1);
+  at('last').onclick = () => go(count - 1);
   at('before').onclick = () => seek(-1);
   at('after').onclick = () => seek(1);
   at('theme').onclick = () => { document.documentElement.dataset.theme = isDark() ? 'light' : 'dark'; };
   at('search').oninput = event => search(event.target.value);
+  at('search').onfocus = () => { origin = now; };
   at('list').onscroll = drawRows;
-  at('rows').style.height = `${turns.length * ROW}px`;
+  at('rows').style.height = `${count * ROW}px`;
   document.documentElement.style.setProperty('--graph', `${width}px`);
   document.onkeydown = onKey;
   onhashchange = () => { if (turnInAddress() !== now) go(turnInAddress()); };
   onresize = drawRows;
   drawTitles();
   drawLegend();
+  const bar = document.querySelector('header');
+  new ResizeObserver(() => document.documentElement.style.setProperty('--bar', `${bar.offsetHeight}px`)).observe(bar);
   go(turnInAddress());
+  setTimeout(learnOn);
 }
 begin();
 </script>

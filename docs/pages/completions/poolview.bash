@@ -44,8 +44,9 @@ _poolview() {
         fi
         ;;
     page)
+        case $before in --from | --turns) return ;; esac
         if [[ $word == -* ]]; then
-            mapfile -t COMPREPLY < <(compgen -W '--explain --explain=never --explain=always --explain=auto --help' -- "$word")
+            mapfile -t COMPREPLY < <(compgen -W '--from --turns --explain --explain=never --explain=always --explain=auto --help' -- "$word")
         else
             mapfile -t COMPREPLY < <(compgen -f -- "$word")
         fi

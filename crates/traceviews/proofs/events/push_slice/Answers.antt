@@ -1,6 +1,7 @@
 use Rattle.std.proofs.Common.{◌++◌, ℕ, List, codes, refl, subst}
-use Rattle.traceviews.specs.Events.{track_fields, turn_title}
+use Rattle.traceviews.specs.Events.{turn_title}
 use Rattle.traceviews.specs.Json.{turn_object}
+use Rattle.traceviews.specs.Tracks.{track_fields}
 use Rattle.traceviews.specs.Turns.{behind, lane_of}
 use Rattle.traceviews.specs.declared.line.Line.{Line}
 use Rattle.traceviews.specs.Pages.{Grows}
