@@ -1,162 +1,40 @@
 """Cases of refusals.py: texts in Rattle, which the translator refuses or keeps, and texts in Rust that the second reader refuses."""
 
-# Parts of what follows: the heads of two functions up to their clauses' ends, a law, a drop by value, a row that is filled, a look, a row
-# of values.
+# Parts of what follows: the heads of two functions up to their clauses' ends, a law, a step with its operation and its word, and what is
+# written for it.
 F = "fn f(n: u32) -> u32\n    ensures { result ≡ n + 1"
 G = "fn g(n: u32) -> u32\n    ensures { result ≡ n"
 LAW = "fn a_law()\n    ensures { x }\n{\n}\n\n"
-FORGETS = """struct S<T> {{
-    value: {},
+STEP = """use poolsteps::{{Grid, {1}}};
+
+trait Aim {{
+    ghost key: {{ ℕ }};
 }}
 
-impl<T> Drop for S<T> {{
-    fn drop(self) {{
-        let _leaked = unsafe {{ ManuallyDrop::new_unchecked(self) }};
-    }}
-}}
-"""
-ROW = """use core::slots::{{Slots, reserve}};
+struct Enter;
 
-fn write_all<T: Drop>(row: &mut Slots<T>, mut words: Vec<T>) {{
-    while let Some(word) = words.pop() {{
-        {1}.put(words.len(), word);
-    }}
-}}
+struct Leave;
 
-fn f(alloc: Global, words: Vec<u32>, mut other: Slots<u32>) -> Option<Slots<u32>> {{
-    let (mut row, lease) = (unsafe {{ reserve(&alloc, words.as_slice()) }}).ok()?;
-    write_all(&mut {0}, words);
-    Some(row)
-}}
-"""
-LOOK = """use crate::words::MOST_LANES;
-use std::marker::Brand;
-
-const APART: usize = 16;
-
-const LIVES_START: usize = APART * (1 + MOST_LANES as usize);
-
-struct Grid;
+struct Look;
 
 impl Grid {{
-    fn look(&self, hand: &mut Hand, lane: u32) {{
-        self.table.shared.load::<Brand>(hand, {0}(lane));
-    }}
-}}
-
-fn {0}(lane: u32) -> usize {{
-    {1}
-}}
-"""
-LOOK_WRITTEN = """use crate::erased::keybits::words::MOST_LANES;
-
-const APART: usize = 16;
-
-const LIVES_START: usize = APART * (1 + MOST_LANES as usize);
-
-struct Grid;
-
-impl Grid {
-    fn look(&self, hand: &mut Hand, lane: u32) {
-    }
-}
-
-fn look_word(lane: u32) -> usize {
-    lane as usize
-}
-"""
-BECOMES = """use crate::shim::{{reserve, Slots}};
-
-fn write_all<T>(row: &mut Slots<T>, mut words: Vec<T>) {{
-    while let Some(word) = words.pop() {{
-        {0}.put(words.len(), word);
-    }}
-}}
-
-fn f(alloc: Global, words: Vec<u32>, mut other: Slots<u32>) -> Option<Slots<u32>> {{
-    let (mut row, lease) = (unsafe {{ reserve(&alloc, words) }}).ok()?;
-    Some(row)
-}}
-"""
-SHAPE = """struct Shape {{
-    n: u32,
-}}
-
-impl Shape {{
-    fn at(&self, n: u32) -> u32 {{
-        n
-    }}
-
-    fn grow(&mut self, n: u32) -> u32 {{
-        n
-    }}
-}}
-
-fn f(shape: &{2}Shape, n: u32) {{
-    let _ = shape.{0}({1});
-}}
-"""
-ALIKE = """struct Cell {{
-    n: u32,
-}}
-
-fn f(row: &mut Vec<Cell>, hand: &mut u32, count: usize) {{
-    for _ in 0..{0} {{
-        row.push_reserved(Cell {{ n: {1} }});
+    fn step<J: Aim>(&self, spot: u32) -> u64 {{
+        self.table.shared.{0}(hand, {1} + spot.start as usize, 4)
     }}
 }}
 """
+STEPPED = """use crate::word::Grid;
 
-ALIKE_WRITTEN = """struct Cell {{
-    n: u32,
-}}
+struct Enter;
 
-fn f(row: &mut Vec<Cell>, hand: &mut u32, count: usize) {{
-    row.push_alike({0}, || Cell {{ n: {1} }});
-}}
-"""
+struct Leave;
 
-FRESH = """fn f<T: Clear>(alloc: Global, count: u32, more: u32) -> Option<Vec<T>> {{
-    let mut row = Vec::with_capacity(alloc, {0} as usize).ok()?;
-    for _ in 0..{1} {{
-        row.push_reserved({2});
+struct Look;
+
+impl Grid {{
+    fn step(&self, spot: u32) -> u64 {{
+        self.{}4)
     }}
-    Some(row)
-}}
-"""
-FRESH_WRITTEN = """fn f<T: Clear>(alloc: Global, count: u32, more: u32) -> Option<Vec<T>> {
-    let row = unsafe { Vec::fresh(alloc, count as usize, T::UNWRITTEN, || T::fresh(alloc)) }.ok()?;
-    Some(row)
-}
-"""
-
-EMPTIER = """trait {0}<T> {{
-    fn empty(&mut self, object: &mut T);
-}}
-
-struct InPlace;
-
-impl {0}<u32> for InPlace {{
-    fn empty(&mut self, object: &mut u32) {{
-        f(object);
-    }}
-}}
-
-fn take<E: {0}<u32>>(object: &mut u32, emptier: &mut E) {{
-    {1};
-}}
-
-fn take_in_place(object: &mut u32) {{
-    let mut in_place = InPlace;
-    {2};
-}}
-"""
-EMPTIER_LENT = """fn take<E: {0}<T>>(object: &mut u32, emptier: &mut E) {{
-    emptier.empty(object);
-}}
-"""
-EMPTIER_WRITTEN = """fn take<E: {0}<T>>(object: &mut u32, {1}: E) {{
-    {1}.empty(object);
 }}
 """
 
@@ -174,13 +52,7 @@ REFUSED = [
         3,
         "a drop by value",
     ),
-    (
-        "a clone that may fail",
-        "struct S;\n\nimpl Clone for S {\n    fn clone(&self) -> Result<S, Fault> {\n        f()\n    }\n}\n",
-        4,
-        "a form of clone",
-    ),
-    ("an import that the shim lacks", "use std::thread::spawn;\n\nfn f() {\n    spawn();\n}\n", 1, "an import of std::thread::spawn"),
+    ("an import of std", "use std::thread::spawn;\n\nfn f() {\n    spawn();\n}\n", 1, "an import of std::thread::spawn"),
     ("a name of proofs in a body", "use std::marker::Brand;\n\nfn f() {\n    let b = Brand;\n}\n", 4, "for proofs alone"),
     ("an attribute", "#[no_mangle]\nfn f() {\n}\n", 1, "an attribute `no_mangle`"),
     ("a sign that Rust hasn't", "fn f(n: u32) -> bool {\n    n ≡ 1\n}\n", 2, "a sign `≡`"),
@@ -222,7 +94,6 @@ REFUSED = [
     ),
     ("a type named as one of Rust's", "struct u32 {\n    a: u8,\n    b: u64,\n}\n", 1, "a name of Rust's own"),
     ("a trait named as one of Rust's", "trait Drop {\n    fn drop(self);\n}\n", 1, "a name of Rust's own"),
-    ("a row of a value that is computed", "fn f(n: &mut u32) -> Row {\n    vec![in Global; next(n); 3]\n}\n", 2, "a form of vec!"),
     ("an import named as a law", {"lib": LAW, "other": "pub use crate::words::f as a_law;\n"}, "other:1", "stands for two things"),
     ("a name of two things", "use crate::words::f;\nuse seqpool::f;\n\nfn g() {\n    f();\n}\n", 2, "stands for two things"),
     ("an attribute of an import", "#[cfg(test)]\nuse seqpool::f;\n\nfn g() {\n    f();\n}\n", 1, "an attribute of an import"),
@@ -231,9 +102,9 @@ REFUSED = [
         "the size of a value",
         "use std::mem;\n\nfn f(n: &(u8, u32)) -> usize {\n    mem::size_of_val(n)\n}\n",
         4,
-        "a path mem::size_of_val",
+        "a path that begins with mem",
     ),
-    ("another function of mem", "use std::mem;\n\nfn f(n: &mut u32) -> u32 {\n    mem::take(n)\n}\n", 4, "a path mem::take"),
+    ("another function of mem", "use std::mem;\n\nfn f(n: &mut u32) -> u32 {\n    mem::take(n)\n}\n", 4, "a path that begins with mem"),
     ("a path into Rust's core", "fn f(n: u32) -> u32 {\n    core::hint::black_box(n)\n}\n", 2, "a path that begins with core"),
     (
         "a range without an end",
@@ -251,70 +122,23 @@ REFUSED = [
     ),
     ("a call of clone by its path", "struct S;\n\nfn f(n: &S) {\n    let _ = S::clone(n);\n}\n", 4, "a call of clone"),
     ("a call of cloned", "fn f(n: Option<&u32>) -> Option<u32> {\n    n.cloned()\n}\n", 2, "a call of cloned"),
-    (
-        "an impl for a type of std",
-        "trait Clear {\n    fn clear(&mut self);\n}\n\nimpl Clear for u32 {\n    fn clear(&mut self) {\n    }\n}\n",
-        5,
-        "which isn't of this crate",
-    ),
-    ("an impl of another trait of std", "struct S;\n\nimpl Iterator for S {\n}\n", 3, "an impl of Iterator"),
-    ("a drop that forgets a parameter", FORGETS.format("T"), 5, "forgets a T"),
-    ("one in another type", FORGETS.format("Option<(u32, T)>"), 5, "forgets a T"),
-    ("one in a type of the crate", FORGETS.format("Held<T>") + "\nstruct Held<U> {\n    value: U,\n}\n", 5, "forgets a T"),
-    ("a row, and another that is filled", ROW.format("other", "row"), 10, "a form of reserve"),
-    ("a row that is filled otherwise", ROW.format("row", "spare"), 10, "a form of reserve"),
-    ("a load at a word named as a look's", LOOK.format("look_word", "lane as usize"), 12, "a load whose answer nobody takes"),
-    (
-        "who is handed what a call takes out, and is kept",
-        EMPTIER.format("Emptier", "let other = emptier", "take(object, &mut in_place)"),
-        14,
-        "a use of who is handed",
-    ),
-    (
-        "one who is written to",
-        EMPTIER.format("Emptier", "*emptier = next(object)", "take(object, &mut in_place)"),
-        14,
-        "a use of who is handed",
-    ),
-    ("one made here, and kept", EMPTIER.format("Emptier", "emptier.empty(object)", "let other = &mut in_place"), 19, "a use of who is handed"),
+    ("a step by another operation", STEP.format("fetch_sub::<Enter<J>>", "LIVES_START"), 15, "a form of step"),
+    ("a step at another word", STEP.format("fetch_add::<Enter<J>>", "LINKS_START"), 15, "a form of step"),
+    ("an unknown step", STEP.format("load::<Look<J>>", "LIVES_START"), 15, "a form of step"),
+    ("a table without a step", "struct S;\n\nimpl S {\n    fn f(&self) -> u64 {\n        self.table.shared\n    }\n}\n", 5, "a form of step"),
+    ("an object", "fn f<T: Clear>(object: &T) {\n}\n", 1, "an object"),
+    ("a row of objects", "fn f<T: Clear>(row: &Vec<T>) {\n}\n", 1, "`Vec<T>`"),
+    ("another parameter of types", "fn f<E: Clear>() {\n}\n", 1, "a parameter of types"),
+    ("what is by hand by another name", "use poolsteps::Grid as Table;\n\nfn f(table: &Table) {\n}\n", 1, "by another name"),
 ]
 
-# A text of a file that has the look of a form that is written otherwise, and isn't it; and what must be left of it.
+# A text of a file, and what must be left of it.
 KEPT = [
-    (
-        "a trait named as one of the kit's",
-        "trait Split {\n    fn cut(&self) -> u32 {\n        1\n    }\n}\n\nstruct S;\n\nimpl Split for S {\n}\n",
-        "impl Split for S {}",
-    ),
-    (
-        "a type named as one of the kit's",
-        "fn f(t: &Seat<u32, u64>) {\n}\n\nstruct Seat<A, B> {\n    a: A,\n    b: B,\n}\n",
-        "t: &Seat<u32, u64>",
-    ),
-    ("a count by a path", ALIKE.format("crate::count()", "0"), "for _ in 0..crate::erased::keybits::count() {"),
-    ("a value by a call", ALIKE.format("count", "next(hand)"), "row.push_reserved(Cell { n: next(hand) });"),
-    ("empty objects in a row with more room", FRESH.format("more", "count", "T::fresh(alloc)"), "for _ in 0..count {"),
-    ("a row of other objects", FRESH.format("count", "count", "T::other(alloc)"), "row.push_reserved(T::other(alloc));"),
-    ("a number of numbers", SHAPE.format("at", "n as u32 + 1", ""), "n: u32) {}"),
-    ("a number of a call", SHAPE.format("at", "next(n)", ""), "let _ = shape.at(next(n));"),
-    ("a number of what may write", SHAPE.format("grow", "n", "mut "), "let _ = shape.grow(n);"),
-    ("a look by its definition", LOOK.format("own_word", "APART * (1 + (lane % MOST_LANES) as usize)"), "fn look(&self, hand: &mut Hand, lane: u32) {}"),
-    (
-        "room of this name that is another",
-        "const BYTES_APART: usize = 128;\n\nstruct S {\n    unused: [u64; BYTES_APART / 8],\n}\n",
-        "unused: [u64; BYTES_APART / 8]",
-    ),
-    (
-        "who is lent to a call of another trait",
-        EMPTIER.format("Taker", "emptier.empty(object)", "take(object, &mut in_place)"),
-        "fn take<E: Taker<u32>>(object: &mut u32, emptier: &mut E) {",
-    ),
-    (
-        "who is lent by the same name",
-        EMPTIER.format("Taker", "emptier.empty(object)", "take(object, &mut in_place)"),
-        "let mut in_place = InPlace;\n    take(object, &mut in_place);",
-    ),
-    ("a type behind // in a string", 'fn f(alloc: Global) -> u32 {\n    g("//", Vec::new(alloc))\n}\n', "use crate::shim::Vec;"),
+    ("a step", STEP.format("fetch_add::<Enter<J>>", "LIVES_START"), "self.enters(4)"),
+    ("another one", STEP.format("fetch_sub::<Leave<J>>", "LIVES_START"), "self.leaves(4)"),
+    ("what is lent", "use poolsteps::Grid;\n\nfn f<T: Clear>(grid: &Grid<T>) {\n}\n", "fn f(grid: &Grid<'_>) {}"),
+    ("a number, and another name", "struct S {\n    number: u32,\n    numbers: u32,\n}\n", "struct S {\n    numbers: u32,\n}"),
+    ("an argument that a step depends on", "fn f(hand: u32, key: u32) {\n    g(hand, key, hand.size);\n}\n", "fn f(key: u32) {\n    g(key, hand.size);\n}"),
 ]
 
 # A text of a file, and a wrong one for it, which the second reader refuses.
@@ -341,26 +165,13 @@ WRONG = [
         "fn f(n: &mut u32) {\n    let no = || g(n);\n}\n",
     ),
     ("the size of a value", "fn f(n: &S) -> usize {\n    mem::size_of_val(n)\n}\n", "fn f(n: &S) -> usize {\n    mem::size_of_val(n)\n}\n"),
-    ("fewer empty objects", FRESH.format("count", "more", "T::fresh(alloc)"), FRESH_WRITTEN),
-    ("other objects in place of empty ones", FRESH.format("count", "count", "T::other(alloc)"), FRESH_WRITTEN),
     ("a range without an end", "fn f() {\n    for i in 250u8.. {\n    }\n}\n", "fn f() {\n    for i in 250u8.. {\n    }\n}\n"),
-    (
-        "a parameter that is dropped",
-        FORGETS.format("T"),
-        "struct S<T> {\n    value: T,\n}\nconst _: () = assert!(!std::mem::needs_drop::<S<()>>());\n",
-    ),
-    ("a row that is filled otherwise", ROW.format("row", "spare"), BECOMES.format("spare")),
-    ("a load at a word named as a look's", LOOK.format("look_word", "lane as usize"), LOOK_WRITTEN),
-    ("a number of a call", SHAPE.format("at", "next(n)", ""), SHAPE.format("at", "next(n)", "").replace("let _ = shape.at(next(n));", "")),
-    (
-        "a number of what may write",
-        SHAPE.format("grow", "n", "mut "),
-        SHAPE.format("grow", "n", "mut ").replace("let _ = shape.grow(n);", ""),
-    ),
-    ("a value by a call", ALIKE.format("count", "next(hand)"), ALIKE_WRITTEN.format("count", "next(hand)")),
-    ("who is lent to a call of another trait, by value", EMPTIER_LENT.format("Taker"), EMPTIER_WRITTEN.format("Taker", "emptier")),
-    ("another by value", EMPTIER_LENT.replace("emptier", "taker").format("Emptier"), EMPTIER_WRITTEN.format("Emptier", "taker")),
-    ("another row without its room", "struct S {\n    words: [u64; BYTES / 8],\n}\n", "struct S {\n    words: [u64; 0],\n}\n"),
+    ("a step by another operation", STEP.format("fetch_sub::<Enter<J>>", "LIVES_START"), STEPPED.format("enters(")),
+    ("a step at another word", STEP.format("fetch_add::<Enter<J>>", "LINKS_START"), STEPPED.format("enters(")),
+    ("another step", STEP.format("fetch_sub::<Leave<J>>", "LIVES_START"), STEPPED.format("enters(")),
+    ("another argument that is left out", "fn f(n: u32) {\n    g(n, n);\n}\n", "fn f(n: u32) {\n    g(n);\n}\n"),
+    ("a statement that takes more", "fn f() {\n    let mut hand = g(n);\n}\n", "fn f() {\n}\n"),
+    ("a drop that is left out", "struct S;\n\nimpl Drop for S {\n    fn drop(self) {\n    }\n}\n", "struct S;\n"),
 ]
 
 # A file, and what is left of it.
@@ -368,15 +179,16 @@ ERASED = """//! A crate.
 #![tactic(auto)]
 ghost use Rattle.std.specs.Prelude.{ℕ};
 
+use poolsteps::Grid;
 use std::marker::{Brand, Model};
 
 /// How many.
 #[derive(Clone, Copy, Drop)]
 pub struct Count {
-    /// The number.
-    pub number: u32,
+    /// Of them.
+    pub size: u32,
     // It is small.
-    ghost small: { number < 8 },
+    ghost small: { size < 8 },
 }
 
 impl Model for Count {
@@ -384,49 +196,55 @@ impl Model for Count {
 }
 
 /// The next one.
-pub fn next<T: Drop>(count: Count, rest: &mut Vec<T>) -> Count
-    requires { count.number < 7 }
+pub fn next<T: Clear + Drop>(grid: &Grid<T>, count: Count) -> Count
+    requires { count.size < 7 }
 
     // One more.
-    ensures more { result.number ≡ count.number + 1 }
+    ensures more { result.size ≡ count.size + 1 }
 {
-    if rest.is_empty() {
-        unreachable!()
-    }
+    a_law();
+    grid.look(count);
     Count {
-        number: count.number + 1,
+        size: count.size + 1,
     }
 }
 
+#[cold]
+#[inline(never)]
 fn first() -> Count {
-    Count { number: 0 }
+    Count { size: 0 }
+}
+
+fn a_law()
+    ensures { x }
+{
 }
 """
-LEFT = """// Made from crates/keybits/src/lib.rt by tools/erase/erase.py: change that file, not this one.
+LEFT = """// Made from crates/seatcalls/src/lib.rt by tools/erase/erase.py: change that file, not this one.
 
 //! A crate.
 
-use crate::shim::{impossible, Vec};
+use crate::word::Grid;
 
 /// How many.
 #[derive(Clone, Copy)]
 pub struct Count {
-    /// The number.
-    pub number: u32,
+    /// Of them.
+    pub size: u32,
 }
 
 /// The next one.
-pub fn next<T>(count: Count, rest: &mut Vec<T>) -> Count {
-    if rest.is_empty() {
-        impossible!()
-    }
+#[inline]
+pub fn next(grid: &Grid<'_>, count: Count) -> Count {
+    grid.look(count);
     Count {
-        number: count.number + 1,
+        size: count.size + 1,
     }
 }
 
+#[cold]
 #[inline]
 fn first() -> Count {
-    Count { number: 0 }
+    Count { size: 0 }
 }
 """

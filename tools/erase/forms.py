@@ -53,7 +53,7 @@ class Source:
         self.edits = []
         self.items = []
         self.scope = {}
-        self.shim = set()
+        self.by_hand = set()
 
     def lexed(self, token):
         """Refuses what could hide a brace: what begins a comment in a clause, and texts that other readers may end elsewhere."""
@@ -113,11 +113,6 @@ class Source:
     def words_at(self, i, count):
         """So many tokens from i on, with a space between any two."""
         return " ".join(self.at(k) for k in range(i, i + count))
-
-    def head_and_body(self, item):
-        """The parameters and the body of a function, with `--` between them, which is no token."""
-        parameters, body = ((a, b - a) for a, b in (item.parameters, item.body))
-        return f"{self.words_at(*parameters)} -- {self.words_at(*body)}"
 
     def want(self, i, text):
         if self.at(i) != text:

@@ -10,16 +10,27 @@ import erase
 import tokens
 from cases import ERASED, KEPT, LEFT, REFUSED, WRONG
 
+# The crate of the cases: one with all forms.
+CRATE = "seatcalls"
+
+
+class All:
+    """All names."""
+
+    def __contains__(self, _):
+        return True
+
 
 def erased(texts):
-    """What the translator writes for a crate of these files, or of one."""
+    """What the translator writes for a crate of these files, or of one, of which all is used."""
     folder = tempfile.mkdtemp()
+    files = texts if isinstance(texts, dict) else {"lib": texts}
     try:
-        os.makedirs(os.path.join(folder, "keybits", "src"))
-        for name, text in (texts if isinstance(texts, dict) else {"lib": texts}).items():
-            with open(os.path.join(folder, "keybits", "src", name + ".rt"), "w", encoding="utf-8") as file:
+        os.makedirs(os.path.join(folder, CRATE, "src"))
+        for name, text in files.items():
+            with open(os.path.join(folder, CRATE, "src", name + ".rt"), "w", encoding="utf-8") as file:
                 file.write(text)
-        return erase.Eraser(folder, ["keybits"]).texts()
+        return erase.Eraser(folder, {f"{CRATE}/{name}": All() for name in files}).texts()
     finally:
         shutil.rmtree(folder)
 
@@ -34,7 +45,7 @@ def refused():
             said = "it is taken"
         except erase.Refused as fault:
             said = str(fault)
-        if said.startswith(f"crates/keybits/src/{file}.rt:{line}: ") and what in said:
+        if said.startswith(f"crates/{CRATE}/src/{file}.rt:{line}: ") and what in said:
             good += 1
         else:
             print(f"FAIL {name}: {said}")
@@ -46,7 +57,7 @@ def kept():
     good = 0
     for name, text, left in KEPT:
         try:
-            made = erased(text)["keybits/mod.rs"]
+            made = erased(text)[f"{CRATE}/mod.rs"]
         except erase.Refused as fault:
             made = str(fault)
         if left in made:
@@ -61,20 +72,20 @@ def found():
     good = 0
     for name, text, wrong in WRONG:
         try:
-            tokens.compare({("keybits", "lib"): text}, {("keybits", "lib"): wrong})
+            tokens.compare({(CRATE, "lib"): text}, {(CRATE, "lib"): wrong})
             print(f"FAIL the second reader takes {name}")
         except SystemExit:
             good += 1
-    right = {("keybits", "lib"): ERASED}, {("keybits", "lib"): LEFT}
+    right = {(CRATE, "lib"): ERASED}, {(CRATE, "lib"): LEFT}
     return good if tokens.compare(*right) else 0
 
 
 def main():
     good, left, wrong = refused(), kept(), found()
-    made = erased(ERASED)["keybits/mod.rs"]
+    made = erased(ERASED)[f"{CRATE}/mod.rs"]
     if made != LEFT:
         print("FAIL what is left of a crate:\n" + made)
-    elif erased(ERASED)["keybits/mod.rs"] != made:
+    elif erased(ERASED)[f"{CRATE}/mod.rs"] != made:
         print("FAIL two runs differ")
     elif (good, left, wrong) == (len(REFUSED), len(KEPT), len(WRONG)):
         print(f"{good} forms are refused with file and line, {left} are kept; the second reader refuses {wrong} wrong texts")

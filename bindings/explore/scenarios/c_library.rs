@@ -1,6 +1,8 @@
 //! The C library that cargo builds, as a program calls it: its exported calls, a pool that any thread calls, an owned reference.
-use explorer::reads;
+use explorer::{reads, writes};
 use std::cell::UnsafeCell;
+use std::ffi::c_void;
+use std::sync::atomic::{AtomicU32, Ordering};
 use std::{ptr, slice};
 
 extern crate pardz_c as _;
@@ -45,6 +47,30 @@ struct Limits {
     last_generation: u32,
 }
 
+/// What the objects of a pool are.
+#[repr(C)]
+struct Objects {
+    size: usize,
+    zeroed: u32,
+    empty: Option<extern "C" fn(*mut c_void, *mut c_void, usize)>,
+    end: Option<extern "C" fn(*mut c_void, *mut c_void, usize)>,
+    context: *mut c_void,
+}
+
+/// How many objects were emptied since a pool of them was opened, and how many ended.
+pub static EMPTIED: AtomicU32 = AtomicU32::new(0);
+pub static ENDED: AtomicU32 = AtomicU32::new(0);
+
+extern "C" fn empty(_: *mut c_void, at: *mut c_void, _: usize) {
+    writes(at, "an object that is emptied");
+    EMPTIED.fetch_add(1, Ordering::Relaxed);
+}
+
+extern "C" fn end(_: *mut c_void, at: *mut c_void, _: usize) {
+    writes(at, "an object that ends");
+    ENDED.fetch_add(1, Ordering::Relaxed);
+}
+
 /// A reference of no lane.
 #[repr(C)]
 #[derive(Clone, Copy)]
@@ -68,10 +94,17 @@ impl CRef {
 
 /// A filling of no lane.
 #[repr(C)]
-#[derive(Clone, Copy, Default)]
+#[derive(Clone, Copy)]
 pub struct CFilling {
+    at: *mut u8,
     key: u64,
-    lent: usize,
+}
+
+impl CFilling {
+    pub const NONE: CFilling = CFilling {
+        at: ptr::null_mut(),
+        key: 0,
+    };
 }
 
 const OK: u32 = 0;
@@ -99,6 +132,7 @@ extern "C" {
     fn pardz_pool_census(pool: *const Slot, census: *mut Census) -> u32;
     fn pardz_detach(pool: *mut Slot, census: *mut Census) -> u32;
     fn pardz_grow(limits: *const Limits, pool: *mut Slot) -> u32;
+    fn pardz_open_sized(limits: *const Limits, objects: *const Objects, pool: *mut Slot) -> u32;
     fn pardz_any_put(pool: *const Slot, bytes: *const u8, len: usize, key: *mut u64) -> u32;
     fn pardz_any_create(pool: *const Slot, filling: *mut CFilling) -> u32;
     fn pardz_any_append(
@@ -242,18 +276,35 @@ impl CPool {
     }
 }
 
+const LIMITS: Limits = Limits {
+    places: u64::MAX,
+    threads: u32::MAX,
+    first_tag: 0,
+    tags: 256,
+    last_generation: u32::MAX,
+};
+
 /// Calls by any thread.
 impl CPool {
     pub fn grow(&self) {
-        let limits = Limits {
-            places: u64::MAX,
-            threads: u32::MAX,
-            first_tag: 0,
-            tags: 256,
-            last_generation: u32::MAX,
-        };
         // SAFETY: the slot is empty, and no other thread uses it.
-        assert_eq!(unsafe { pardz_grow(&limits, self.0.get()) }, OK);
+        assert_eq!(unsafe { pardz_grow(&LIMITS, self.0.get()) }, OK);
+    }
+
+    /// A pool of objects of this size.
+    pub fn grow_of(&self, size: usize) {
+        EMPTIED.store(0, Ordering::Relaxed);
+        ENDED.store(0, Ordering::Relaxed);
+        let objects = Objects {
+            size,
+            zeroed: 1,
+            empty: Some(empty),
+            end: Some(end),
+            context: ptr::null_mut(),
+        };
+        // SAFETY: as above.
+        let code = unsafe { pardz_open_sized(&LIMITS, &objects, self.0.get()) };
+        assert_eq!(code, OK);
     }
 
     pub fn any_put(&self, text: &str) -> Answer<u64> {
@@ -264,7 +315,7 @@ impl CPool {
     }
 
     pub fn any_create(&self) -> Answer<CFilling> {
-        let mut filling = CFilling::default();
+        let mut filling = CFilling::NONE;
         // SAFETY: a filling stands there.
         answer(unsafe { pardz_any_create(self.0.get(), &mut filling) }).map(|()| filling)
     }

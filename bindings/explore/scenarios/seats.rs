@@ -1,12 +1,13 @@
 //! The C library's seats, of which one call at a time has each, its owned references, and its calls by any thread.
 use crate::c_library::{
-    look, wait, Answer, CFilling, CPool, CRef, Lent, OwnedSlot, BUSY, GONE, NO_FILLING,
-    NO_REFERENCE,
+    look, wait, Answer, CFilling, CPool, CRef, Lent, OwnedSlot, BUSY, EMPTIED, ENDED, GONE,
+    NO_FILLING, NO_REFERENCE,
 };
 use crate::world::Scenario;
 use explorer::{AtomicU32, Ordering};
 use std::cell::UnsafeCell;
 use std::ptr;
+use std::sync::atomic::Ordering::Relaxed;
 
 /// A pool, and what threads have of it.
 struct Seats {
@@ -61,11 +62,20 @@ impl Seats {
             lents: Vec::new(),
             owned: Vec::new(),
             refs: Vec::new(),
-            filling: (UnsafeCell::new(CFilling::default()), AtomicU32::new(0)),
+            filling: (UnsafeCell::new(CFilling::NONE), AtomicU32::new(0)),
             handed: [(); 2].map(|()| (UnsafeCell::new(None), AtomicU32::new(0))),
             cleared: AtomicU32::new(0),
             done: AtomicU32::new(0),
         }
+    }
+
+    /// A pool of objects, with one, and a reference to it.
+    fn of_objects() -> Seats {
+        let mut world = Seats::unattached();
+        world.pool.grow_of(TEXTS[0].len());
+        world.keys = vec![world.pool.any_put(TEXTS[0]).expect("a place")];
+        world.refs = vec![world.pool.any_get(world.keys[0]).expect("it is published")];
+        world
     }
 
     /// The same, with another slot for the first thread.
@@ -103,6 +113,13 @@ impl Seats {
             key: self.keys[0],
             lane: 0,
         });
+        self
+    }
+
+    /// The same, with an owned reference to the first key, by no lane.
+    fn owning(mut self) -> Seats {
+        let owned = self.pool.any_own(&self.refs[0]);
+        self.owned = vec![owned.expect("few references")];
         self
     }
 
@@ -283,6 +300,24 @@ pub fn all() -> Vec<Scenario> {
         )
         .bounded(3),
         Scenario::new("any-grown", Seats::unattached, [grow_and_cycle; 2], drop).bounded(1),
+        // Of objects, whose ends the program is told.
+        Scenario::new(
+            "object-release",
+            Seats::of_objects,
+            [any_release, any_clear],
+            |world| {
+                assert_eq!(EMPTIED.load(Relaxed), 1, "objects that were emptied");
+                assert_eq!(ENDED.load(Relaxed), 0, "objects that ended");
+                cleared_once(world);
+                assert_eq!((EMPTIED.load(Relaxed), ENDED.load(Relaxed)), (1, 1));
+            },
+        ),
+        Scenario::new(
+            "object-outlives",
+            || Seats::of_objects().owning(),
+            [disown, release_and_detach],
+            |_| assert_eq!((EMPTIED.load(Relaxed), ENDED.load(Relaxed)), (1, 1)),
+        ),
     ]
 }
 
@@ -326,6 +361,12 @@ fn any_clone_and_release(world: &Seats) {
     assert_eq!(world.pool.any_release(&mut found), Ok(()));
     more.look(TEXTS[0]);
     assert_eq!(world.pool.any_release(&mut more), Ok(()));
+}
+
+/// The pool ends, but for its owned reference.
+fn release_and_detach(world: &Seats) {
+    any_release(world);
+    assert_eq!(world.pool.detach().expect("nobody calls").present, 1);
 }
 
 fn any_clear(world: &Seats) {

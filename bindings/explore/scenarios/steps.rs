@@ -10,7 +10,7 @@ const MOST: [(&str, usize, usize); 14] = [
     ("clone of an owned", 2, 1),
     ("release", 10, 3),
     ("release of an owned", 11, 3),
-    ("clear", 17, 7),
+    ("clear", 18, 8),
     ("contains", 4, 1),
     ("publish", 1, 1),
     ("downgrade", 1, 1),

@@ -74,7 +74,7 @@ pub fn all() -> Vec<Scenario> {
         Scenario::new(
             "clear-reclaim",
             one,
-            [clear_both, clear_and_create],
+            [clear_both, look_clear_and_create],
             settled,
         ),
         Scenario::new("retire", last, [get, clear, clear], retired).bounded(3),
@@ -238,7 +238,9 @@ fn create(world: &World) {
     let _ = world.make(7);
 }
 
-fn clear_and_create(world: &World) {
+/// A clear that looked while there was a reference may come to the next key.
+fn look_clear_and_create(world: &World) {
+    world.look_at(0);
     world.clear_at(0);
     let _ = world.make(7);
 }

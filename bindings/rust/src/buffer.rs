@@ -74,10 +74,9 @@ impl Buffer {
 
     /// Ends what was lent, and answers how much that was.
     fn end_room(&mut self) -> usize {
-        let is_lent = self.len & LENT != 0;
+        let lent = self.lent();
         self.len &= !LENT;
-        let told = self.told().filter(|_| is_lent);
-        told.map_or(0, |told| usize::from_ne_bytes(*told))
+        lent
     }
 
     /// Takes memory for so many bytes more, where it has less. What [`room`](Buffer::room) lent ends.
@@ -178,6 +177,22 @@ impl Buffer {
         let lent = self.end_room();
         assert!(count <= lent, "{count} bytes of a room of {lent}");
         self.len += count;
+    }
+
+    /// How many bytes the last [`room`](Buffer::room) lent; 0 where it has ended, by a [`wrote`](Buffer::wrote) or by bytes that were appended.
+    ///
+    /// ```
+    /// let mut bytes = pardz::Buffer::new();
+    /// bytes.room(100)?[0] = b'a';
+    /// assert_eq!(bytes.lent(), 100);
+    /// bytes.wrote(1);
+    /// assert_eq!(bytes.lent(), 0);
+    /// # Ok::<(), pardz::MemoryRefused>(())
+    /// ```
+    #[inline]
+    pub fn lent(&self) -> usize {
+        let told = self.bytes.last_chunk().filter(|_| self.len & LENT != 0);
+        told.map_or(0, |told| usize::from_ne_bytes(*told))
     }
 
     /// Appends what one read gives, at most so many bytes, with no copy between. Answers how many it gave.

@@ -6,6 +6,7 @@
 use crate::clear::Clear;
 use crate::emptying::Back;
 use crate::erased::keybits::{generation_of, State};
+use crate::erased::seatcalls::{Ended, Guest, GuestRef};
 use crate::errors::{CreateError, GetError};
 use crate::inner::{Begun, Inner};
 use crate::key::Key;
@@ -14,7 +15,7 @@ use crate::registry::Wanted;
 use crate::shard::{Found, Shard};
 use crate::sync;
 use crate::thread::{self, Owner};
-use crate::word::{Claim, Entered, Taken};
+use crate::word::{Claim, Grid, Taken};
 use std::mem;
 use std::ptr::NonNull;
 
@@ -53,18 +54,21 @@ impl<T> Inner<T> {
         owner: Owner,
         wanted: Wanted,
     ) -> Result<NonNull<Shard>, CreateError> {
-        // SAFETY: the shard lives as long as this, and a ring has no null pointer.
-        let (shard, next) = unsafe {
-            let shard = at.as_ref();
-            (shard, NonNull::new_unchecked(shard.next().cast_mut()))
-        };
-        if next != ring {
+        // SAFETY: the shard lives as long as this.
+        let shard = unsafe { at.as_ref() };
+        let next = || NonNull::new(shard.next().cast_mut()).filter(|next| *next != ring);
+        if let Some(next) = next() {
             return Ok(next);
         }
-        let further = self.join(owner, wanted).map_err(CreateError::full)?;
-        // SAFETY: as above.
-        shard.link(unsafe { further.as_ref() });
-        Ok(further)
+        match self.join(owner, wanted) {
+            Ok(further) => {
+                // SAFETY: it lives as long as this.
+                shard.link(unsafe { further.as_ref() });
+                Ok(further)
+            }
+            // (The allocator, asked for memory, may have called the pool, and that call got one.)
+            Err(refused) => next().ok_or(refused.full()),
+        }
     }
 
     /// A free place for this thread.
@@ -99,13 +103,14 @@ impl<T> Inner<T> {
     /// A shard of this thread's, of its ring; and whether it keeps it. (Else it exits, or found no memory for its list, and has the shard for
     /// one call.)
     fn ring(&self, owner: Owner) -> Result<(NonNull<Shard>, bool), CreateError> {
-        let known = thread::last_shard(self.id()).or_else(|| thread::find_shard(self.id()));
-        match known {
-            Some(ring) => Ok((ring, true)),
-            None => {
-                let ring = self.join(owner, Wanted::Room)?;
-                Ok((ring, thread::keep(self.id(), self.registry(), ring)))
-            }
+        let known = || thread::last_shard(self.id()).or_else(|| thread::find_shard(self.id()));
+        if let Some(ring) = known() {
+            return Ok((ring, true));
+        }
+        match self.join(owner, Wanted::Room) {
+            Ok(ring) => Ok((ring, thread::keep(self.id(), self.registry(), ring))),
+            // (Likewise: that call may have kept one.)
+            Err(refused) => known().map(|ring| (ring, true)).ok_or(refused),
         }
     }
 
@@ -221,31 +226,40 @@ impl<T: Clear> Inner<T> {
     /// A reference.
     #[inline(always)]
     pub(crate) fn get(&self, key: Key) -> Result<Option<NonNull<Place<T>>>, GetError> {
-        let Some(place) = self.place(key) else {
+        let Some((place, grid)) = self.look_for(key) else {
             return Ok(None);
         };
-        match place.word.enter(key.number(), self.last_generation()) {
-            Entered::Held => Ok(Some(NonNull::from(place))),
-            Entered::Missed => Ok(None),
-            Entered::Refused => Err(GetError::References),
-            Entered::Claimed(claim) => {
-                // SAFETY: it was claimed just now.
-                unsafe { self.finish_apart(place, key, claim) };
+        if grid.is_full() {
+            return Err(GetError::References);
+        }
+        match (Guest {}).get_or_keep(&grid, key.number()) {
+            Ok(_) => Ok(Some(NonNull::from(place))),
+            Err(ended) => {
+                // SAFETY: what it has was claimed just now.
+                unsafe { self.finish_apart(place, key, ended) };
                 Ok(None)
             }
         }
     }
 
+    /// The place of a key, and the pool as a call there sees it, if a look tells that the object can be got.
+    #[inline(always)]
+    fn look_for(&self, key: Key) -> Option<(&Place<T>, Grid<'_>)> {
+        let place = self.place(key)?;
+        let grid = place.word.look_for(key.number(), self.shape());
+        grid.map(|grid| (place, grid))
+    }
+
     /// Hides an object, and answers whether this call did.
     #[inline(always)]
-    pub(crate) fn clear(&self, key: Key, by: Owner) -> bool {
-        let Some(place) = self.place(key) else {
+    pub(crate) fn clear(&self, key: Key, by: impl FnOnce() -> Owner) -> bool {
+        let Some((place, grid)) = self.look_for(key) else {
             return false;
         };
-        let (hides, claim) = place.word.clear(key.number(), self.last_generation());
-        if let Some(claim) = claim {
+        let (hides, ended) = Guest {}.clear_or_keep(&grid, key.number());
+        if let Ended::Kept(claim) = ended {
             // SAFETY: it was claimed just now.
-            unsafe { self.finish(place, key, claim, by) };
+            unsafe { self.finish(place, key, claim, by()) };
         }
         hides
     }
@@ -257,9 +271,14 @@ impl<T: Clear> Inner<T> {
     /// It is the caller's, to this place, of this key.
     #[inline(always)]
     pub(crate) unsafe fn release(&self, place: &Place<T>, key: Key) {
-        if let Some(claim) = place.word.leave(self.last_generation()) {
+        let reference = GuestRef {
+            start: 0,
+            key: key.number(),
+        };
+        let ended = reference.release_or_keep(&place.word.grid(self.shape(), 0));
+        if let Ended::Kept(_) = ended {
             // SAFETY: it was claimed just now.
-            unsafe { self.finish_apart(place, key, claim) };
+            unsafe { self.finish_apart(place, key, ended) };
         }
     }
 
@@ -271,15 +290,22 @@ impl<T: Clear> Inner<T> {
     #[cold]
     pub(crate) unsafe fn abandon(&self, place: &Place<T>, key: Key) {
         let generation = generation_of(key.number());
-        let claim = place.word.skip(generation, self.last_generation());
+        let claim = place.word.skip(generation, self.shape().last_generation);
         // SAFETY: the caller's.
         unsafe { self.finish(place, key, claim, Owner::thread()) };
     }
 
+    /// What is left to do behind a get or a release.
+    ///
+    /// # Safety
+    ///
+    /// If the call claimed a place it was this one, that of the key.
     #[cold]
     #[inline(never)]
-    unsafe fn finish_apart(&self, place: &Place<T>, key: Key, claim: Claim) {
-        // SAFETY: the caller's.
-        unsafe { self.finish(place, key, claim, Owner::thread()) };
+    unsafe fn finish_apart(&self, place: &Place<T>, key: Key, ended: Ended) {
+        if let Ended::Kept(claim) = ended {
+            // SAFETY: the caller's.
+            unsafe { self.finish(place, key, claim, Owner::thread()) };
+        }
     }
 }

@@ -208,7 +208,8 @@ impl<T: Clear> Iterator for Keys<'_, T> {
                     self.slot += 1;
                     // SAFETY: the page has this slot.
                     let place = unsafe { page.place(slot).as_ref() };
-                    if let Look::Present(generation) = place.word.look(lent.last_generation()) {
+                    if let Look::Present(generation) = place.word.look(lent.shape().last_generation)
+                    {
                         return Some(Key::at(first + slot as u64, generation));
                     }
                 }

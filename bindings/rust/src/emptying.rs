@@ -62,10 +62,7 @@ impl Emptying {
         let next = waiting.get(self.done.get()).copied();
         match next {
             Some(_) => self.done.set(self.done.get() + 1),
-            None => {
-                waiting.clear();
-                self.done.set(0);
-            }
+            None => waiting.clear(),
         }
         next
     }

@@ -72,7 +72,7 @@ impl<T: Clear, R: Keeper<T>> Held<T, R> {
     where
         R: Clone,
     {
-        self.place().word.enter_again(self.by.last_generation())?;
+        self.place().word.enter_again()?;
         Ok(Held {
             place: self.place,
             key: self.key,

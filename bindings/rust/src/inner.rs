@@ -107,8 +107,8 @@ impl<T> Inner<T> {
     }
 
     #[inline(always)]
-    pub(crate) fn last_generation(&self) -> u32 {
-        self.shape.last_generation
+    pub(crate) fn shape(&self) -> &Shape {
+        &self.shape
     }
 
     #[inline(always)]
@@ -253,7 +253,7 @@ impl<T> Drop for Inner<T> {
     fn drop(&mut self) {
         let mut panics = First::default();
         for (_, segment) in self.segments.all() {
-            for number in 0..SHARDS * PAGES {
+            for number in 0..segment.shards() * PAGES {
                 if let Some(at) = segment.page(number) {
                     // SAFETY: it is an open page, and nobody uses it any more.
                     unsafe { self.page_at(at, (number % PAGES) as u32).close(&mut panics) };

@@ -194,7 +194,7 @@ impl<'p, T: Clear> Lane<'p, T> {
     /// As [`Pool::clear`]. A place of the lane's own is the quickest to be used again.
     #[inline(always)]
     pub fn clear(&self, key: Key) -> bool {
-        self.lent.clear(key, self.owner)
+        self.lent.clear(key, || self.owner)
     }
 
     /// As [`Pool::reserve`], for creates of this lane.

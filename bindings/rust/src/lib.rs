@@ -1,7 +1,7 @@
 //! A sharded pool of buffers and objects that are emptied in place and used again.
 //!
-//! One thread fills an object and publishes it under a [`Key`], a number; any thread reads it by a reference. A clear hides the key at once,
-//! and whoever lets go last empties the object, which keeps its memory and is filled again under a new key.
+//! A thread fills an object and publishes it under a [`Key`], which is a number; any thread reads it through a reference. A clear hides the
+//! key at once, and the last to leave empties the object, which keeps its memory and is filled again under a new key.
 //!
 //! ```
 //! use pardz::Pool;
@@ -17,17 +17,18 @@
 //!
 //! # Who needs what
 //!
-//! Any thread may make any call, in any number. Only a *create* uses something of the thread's own: a *shard*, which the thread has from its
-//! first create until it exits. A full one is joined by a further one, of those that nobody has, or new. Everybody else is a guest: a get, a
-//! read, a release, a clear and a publish touch the word of the object's place, and who is the last to leave it a bit of its shard.
+//! Any number of threads may make any call. Only a *create* needs something that belongs to its thread: a *shard*, which is a set of
+//! places. A thread takes a shard with its first create and keeps it until it exits; if the shard is full, it takes a further one. All other
+//! calls only touch the word of the object's place, and the last reader to leave sets a bit of the place's shard. These calls are
+//! wait-free.
 //!
-//! No call waits for another thread, but a create that takes a shard, the taking and dropping of a [`Lane`], and a thread's exit: these
-//! share one lock for a bounded number of steps.
+//! The calls that wait for other threads are a create that takes a shard, the taking and dropping of a [`Lane`], and a thread's exit: they
+//! share one lock, and hold it for a bounded number of steps.
 //!
 //! # What is pooled
 //!
-//! A [`Pool`] holds objects of a type that can be emptied in place ([`Clear`]): a [`Buffer`] of bytes, a `String`, a `Vec`, a map, a type of
-//! one's own.
+//! A [`Pool`] holds objects of a type that can be emptied in place ([`Clear`]): a [`Buffer`] of bytes, a `String`, a `Vec`, a map, a type
+//! of your own.
 //!
 //! ```
 //! use pardz::{Clear, Pool};
@@ -51,15 +52,16 @@
 //! # Ok::<(), pardz::CreateError>(())
 //! ```
 //!
-//! `Default`, `Clear` and `Drop` of the type, and closures, run outside of the pool's own steps: they may call the pool again. A panic in them
-//! loses their object at most. An object never moves.
+//! The type's `Default`, `Clear` and `Drop`, and closures, run outside the pool's own steps: they may call the pool again. A panic in them
+//! loses at most their object. An object never moves.
 //!
 //! # Handles
 //!
-//! - A [`Filling`] has an object to be filled; a [`Ref`] one that is published. They borrow the pool, and may go to other threads.
-//! - [`OwnedFilling`] and [`OwnedRef`] ([`Pool::create_owned`], [`Pool::get_owned`]) are `'static`, for what outlives a scope, as a future across
-//!   `.await` or a message. They may outlive the pool.
-//! - A [`Lane`] ([`Pool::lane`]) is a shard in hand: its creates look for nothing that the thread has, and it moves from thread to thread.
+//! - A [`Filling`] holds an object that is being filled, a [`Ref`] one that is published. They borrow the pool, and may go to other
+//!   threads.
+//! - [`OwnedFilling`] and [`OwnedRef`] ([`Pool::create_owned`], [`Pool::get_owned`]) are `'static`, for what outlives a scope, such as a
+//!   future across an `.await` or a message. They may outlive the pool.
+//! - A [`Lane`] ([`Pool::lane`]) is a shard in hand: its creates don't look up their thread's shard, and it may move from thread to thread.
 //!
 //! ```
 //! use pardz::{Key, OwnedRef, Pool};
@@ -79,13 +81,14 @@
 //! # Ok::<(), pardz::CreateError>(())
 //! ```
 //!
-//! A pool of [`Pool::new`] grows as it fills; [`Limits`] have pools that grow less, or have other tags, and [`Pool::open`] pools of fixed size.
-//! The module [`sharded_slab`] has the names of that crate's pool.
+//! A pool from [`Pool::new`] grows as it fills; [`Limits`] make pools that grow less or have other tags, and [`Pool::open`] makes pools of
+//! fixed size. The module [`sharded_slab`] has the names of that crate's pool.
 //!
 //! # What stands behind it
 //!
-//! The words of places, keys and shapes are proved in Rattle, a Rust with contracts, and translated from there (the private module `erased`).
-//! **The crate itself isn't proved**: README says what is by hand, and how that is tested.
+//! Keys, the words of places, and what a get, a release and a clear do with these words are proved in Rattle, which is Rust with contracts,
+//! and translated from there (the private module `erased`). **The crate itself isn't proved**: README says what is written by hand, and how it
+//! is tested.
 #![deny(missing_docs)]
 #![deny(unsafe_code)]
 #![deny(unsafe_op_in_unsafe_fn)]

@@ -19,7 +19,9 @@ pub(crate) const PAGES: usize = 16;
 /// How many places one word of bits is for.
 pub(crate) const GROUP: usize = 64;
 
-/// An object in its place.
+/// An object in its place. (The word in front, and so in the page of the system that the place before it has touched already: a create reads
+/// it first.)
+#[repr(C)]
 pub(crate) struct Place<T> {
     pub(crate) word: Word,
     object: UnsafeCell<MaybeUninit<T>>,
@@ -241,8 +243,8 @@ impl<T> Page<T> {
                     unsafe { place.object().drop_in_place() }
                 }
                 Some(false) => {}
-                // (In a group the lowest free place is taken: so those behind weren't either.)
-                None => *slot = slot.next_multiple_of(GROUP),
+                // (The lowest free place is taken, of the lowest group that has one or of one that was taken from: so those behind weren't either.)
+                None => *slot = self.places,
             }
         }
     }

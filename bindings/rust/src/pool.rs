@@ -332,7 +332,7 @@ impl<T: Clear> Pool<T> {
     #[inline(always)]
     pub fn clear(&self, key: Key) -> bool {
         self.lent()
-            .is_some_and(|lent| lent.clear(key, Owner::thread()))
+            .is_some_and(|lent| lent.clear(key, Owner::thread))
     }
 
     /// Sees to it that the calling thread can create so many objects without a page that is opened for it: as long as nobody else of the thread's

@@ -47,7 +47,7 @@ impl Segment {
         shard
     }
 
-    /// How many shards there are.
+    /// How many shards there are: the first ones.
     pub(crate) fn shards(&self) -> usize {
         let shards = self.shards.iter();
         shards
@@ -94,8 +94,8 @@ impl Segments {
     /// The page of a key's place, if it is open.
     #[inline(always)]
     pub(crate) fn page(&self, key: u64) -> Option<NonNull<u8>> {
-        let page = place_of(key) / PAGE_NUMBERS;
-        self.get(tag_of(key))?.page(page as usize)
+        let segment = self.get(tag_of(key))?;
+        segment.page((place_of(key) / PAGE_NUMBERS) as usize)
     }
 
     /// The shard of a key's place.

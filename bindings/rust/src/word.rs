@@ -1,37 +1,29 @@
 //! The lifecycle word of a place: its generation (32 bits), a count of references (30), a state (2).
 //!
-//! Each step on it is one atomic operation, with the numbers and by the tests of the proved sources (`erased::keybits`). Who counts himself
-//! and finds the key's generation and PRESENT has a reference; who takes the last one of a MARKED word owes a claim, and whoever claims,
-//! by moving the generation on, has the place alone. A generation only grows: so a word of another one has no object of the key any more,
-//! and one load tells a miss.
+//! Each step on it is one atomic operation. Those of a get, a release and a clear are made by translated calls (`erased::seatcalls`), which
+//! hand them their numbers and go by what they find; here each gets its ordering. Who counts himself and finds the key's generation and
+//! PRESENT has a reference; who takes the last one of a MARKED word owes a claim, and whoever claims, by moving the generation on, has the
+//! place alone. A generation only grows: so a word of another one has no object of the key any more, and one load tells a miss.
 //!
 //! A word that is 0 is of a place that was never taken: memory that the system zeroed is ready. RETIRED says that the place has no object:
 //! its generations are used up, or its object was lost to a panic, and the next create makes another.
 use crate::erased::keybits::{
-    claimable, claimed, generation_of, is_hit, marked, owes_claim, Life, State, MARK_BIT,
-    ONE_COUNT, ONE_GENERATION, PUBLISHED_BIT,
+    generation_of, is_hit, place_of, Life, Shape, State, MARK_BIT, ONE_COUNT, ONE_GENERATION,
+    PUBLISHED_BIT,
 };
+use crate::erased::poolsteps::Spot;
 use crate::errors::GetError;
 use crate::sync::{AtomicU64, Ordering::*};
 
-/// A count with one of these bits, from 2^28 on, is too large for a further reference. The counts above are left to calls under way.
+/// A count with one of these bits, from 2^28 on, is too large for a further reference. The counts above are left to calls under way: each
+/// thread may have looked and then come late by one.
 const TOO_MANY: u64 = 3 << 30;
-
-/// How a word differs from one that a get of a key hits, and that has room for a reference: not at all, or in these bits. (`is_hit`, and a look
-/// at the count, by one comparison.)
-#[inline(always)]
-fn difference(key: u64, word: u64) -> u64 {
-    let present = claimable(generation_of(key)) - MARK_BIT;
-    let differs = (word ^ present) & !(COUNT ^ TOO_MANY);
-    debug_assert_eq!(differs == 0, is_hit(key, word) && word & TOO_MANY == 0);
-    differs
-}
-
-/// The bits of the count.
-const COUNT: u64 = ONE_GENERATION - ONE_COUNT;
 
 /// From IDLE to RETIRED.
 const VACANT_BIT: u64 = MARK_BIT;
+
+/// A place that a guest claimed, as the sources call it.
+pub(crate) use self::Claim as Claimed;
 
 pub(crate) struct Word(AtomicU64);
 
@@ -41,15 +33,6 @@ pub(crate) struct Word(AtomicU64);
 pub(crate) enum Claim {
     Reusable,
     Retired,
-}
-
-/// What a get found.
-pub(crate) enum Entered {
-    Held,
-    Missed,
-    /// It missed, and was the last who left: it claimed the place.
-    Claimed(Claim),
-    Refused,
 }
 
 /// What the word says to the thread that took its place to be filled: the generation, and whether there is an object.
@@ -71,97 +54,33 @@ pub(crate) enum Look {
 }
 
 impl Word {
-    /// A reference to the object of a key, where that can be got: a load, and where it tells a hit an addition, which a subtraction takes
-    /// back if the object was cleared in between.
+    /// The pool as a call sees it at this word, if a look tells that the object of a key can be got. (Else the look was the call.)
     #[inline(always)]
-    pub(crate) fn enter(&self, key: u64, last: u32) -> Entered {
-        let seen = difference(key, self.0.load(Relaxed));
-        if seen != 0 {
-            return match seen & !TOO_MANY {
-                0 => Entered::Refused,
-                _ => Entered::Missed,
-            };
-        }
-        let found = difference(key, self.0.fetch_add(ONE_COUNT, Acquire));
-        if found == 0 {
-            return Entered::Held;
-        }
-        self.undo(found, last)
+    pub(crate) fn look_for<'p>(&'p self, key: u64, shape: &'p Shape) -> Option<Grid<'p>> {
+        let seen = self.0.load(Relaxed);
+        is_hit(key, seen).then(|| self.grid(shape, seen))
     }
 
-    #[cold]
-    #[inline(never)]
-    fn undo(&self, found: u64, last: u32) -> Entered {
-        match self.leave(last) {
-            Some(claim) => Entered::Claimed(claim),
-            None if found & !TOO_MANY == 0 => Entered::Refused,
-            None => Entered::Missed,
+    /// The same for a call that needs no look.
+    #[inline(always)]
+    pub(crate) fn grid<'p>(&'p self, shape: &'p Shape, seen: u64) -> Grid<'p> {
+        Grid {
+            shape,
+            word: self,
+            seen,
         }
     }
 
     /// One more reference, by who has one: also to an object whose key was cleared.
     #[inline]
-    pub(crate) fn enter_again(&self, last: u32) -> Result<(), GetError> {
+    pub(crate) fn enter_again(&self) -> Result<(), GetError> {
         let found = self.0.fetch_add(ONE_COUNT, Relaxed);
         if found & TOO_MANY == 0 {
             return Ok(());
         }
         // (The caller's own reference is there still, so that nothing is claimed.)
-        let _ = self.leave(last);
+        self.0.fetch_sub(ONE_COUNT, Release);
         Err(GetError::References)
-    }
-
-    /// Takes a reference back.
-    #[inline(always)]
-    pub(crate) fn leave(&self, last: u32) -> Option<Claim> {
-        let found = self.0.fetch_sub(ONE_COUNT, Release);
-        if !owes_claim(found) {
-            return None;
-        }
-        self.claim((found >> 32) as u32, last)
-    }
-
-    /// From MARKED with count 0 to the next generation. Where another word stands there, who made it so owes the claim, or made it.
-    #[inline]
-    fn claim(&self, generation: u32, last: u32) -> Option<Claim> {
-        let word = claimable(generation);
-        let exchanged = self
-            .0
-            .compare_exchange(word, claimed(word, last), Acquire, Relaxed);
-        exchanged.is_ok().then_some(claim_at(generation, last))
-    }
-
-    /// Whether this call hid the object of a key; and a claim, if nobody has a reference.
-    #[inline(always)]
-    pub(crate) fn clear(&self, key: u64, last: u32) -> (bool, Option<Claim>) {
-        let word = self.0.load(Relaxed);
-        if !is_hit(key, word) {
-            return (false, None);
-        }
-        let is_alone = word & COUNT == 0;
-        let hidden = marked(word);
-        let next = if is_alone {
-            claimed(hidden, last)
-        } else {
-            hidden
-        };
-        match self.0.compare_exchange(word, next, AcqRel, Relaxed) {
-            Ok(_) => {
-                let claim = claim_at(generation_of(key), last);
-                (true, is_alone.then_some(claim))
-            }
-            Err(_) => self.clear_by_steps(key, last),
-        }
-    }
-
-    /// The same while others step on the word: by steps that can't fail.
-    #[cold]
-    #[inline(never)]
-    fn clear_by_steps(&self, key: u64, last: u32) -> (bool, Option<Claim>) {
-        let found = self.0.fetch_add(ONE_COUNT, Relaxed);
-        // While it is counted the generation stays. (The bit alone is asked for, so that it is one instruction.)
-        let hides = is_hit(key, found) && self.0.fetch_or(MARK_BIT, AcqRel) & MARK_BIT == 0;
-        (hides, self.leave(last))
     }
 
     /// Whether the object of a key can be got.
@@ -198,6 +117,7 @@ impl Word {
     }
 
     /// A new place is taken for the first time: it has no object, or has got one. Nobody steps on its word, as it never was PRESENT.
+    #[inline]
     pub(crate) fn begin(&self, state: State) {
         let first = Life {
             generation: 1,
@@ -208,6 +128,7 @@ impl Word {
     }
 
     /// A vacant place has got an object.
+    #[inline]
     pub(crate) fn occupy(&self) {
         self.0.fetch_and(!VACANT_BIT, Relaxed);
     }
@@ -275,94 +196,77 @@ fn claim_at(generation: u32, last: u32) -> Claim {
     }
 }
 
-#[cfg(test)]
-mod tests {
-    use super::*;
+/// A pool as a translated call sees it, whose key's place is found. The proved pool has a table of all words; here it is that place's alone.
+///
+/// Each step is one atomic operation, and answers the word that it found.
+pub(crate) struct Grid<'p> {
+    pub(crate) shape: &'p Shape,
+    word: &'p Word,
+    /// What a look in front of the call found.
+    seen: u64,
+}
 
-    const LAST: u32 = 2;
-    /// Of slot 5 at generation 1, and of generation 2.
-    const KEY: u64 = 0x100_0005;
-    const NEXT: u64 = 0x200_0005;
-
-    fn word(value: u64) -> Word {
-        Word(AtomicU64::new(value))
+impl Grid<'_> {
+    /// Whether there are as many references as there may be, as the look found.
+    #[inline(always)]
+    pub(crate) fn is_full(&self) -> bool {
+        self.seen & TOO_MANY != 0
     }
 
-    fn value(word: &Word) -> u64 {
-        word.0.load(Relaxed)
+    #[inline(always)]
+    pub(crate) fn find_key(&self, key: u64) -> Option<Spot> {
+        let place = place_of(key);
+        Some(Spot { place, start: 0 })
     }
 
-    #[test]
-    fn a_life_of_a_place() {
-        let word = word(0);
-        assert!(matches!(word.taken(), Taken::New));
-        word.begin(State::Idle);
-        assert_eq!(value(&word), 0x1_0000_0000);
-        assert!(!word.has(KEY) && word.is_begun(KEY));
-        word.publish();
-        assert_eq!(value(&word), 0x1_0000_0001);
-        assert!(matches!(word.enter(KEY, LAST), Entered::Held));
-        assert_eq!(value(&word), 0x1_0000_0005);
-        assert!(word.has(KEY) && word.is_held(KEY) && !word.has(NEXT));
-        assert!(word.clear(KEY, LAST) == (true, None));
-        assert_eq!(value(&word), 0x1_0000_0007);
-        assert!(word.clear(KEY, LAST) == (false, None));
-        assert!(matches!(word.enter(KEY, LAST), Entered::Missed));
-        assert_eq!(word.enter_again(LAST), Ok(()));
-        assert!(word.leave(LAST).is_none());
-        assert!(word.leave(LAST) == Some(Claim::Reusable));
-        assert_eq!(value(&word), 0x2_0000_0000);
-        assert!(matches!(word.taken(), Taken::Filled(2)));
-        word.publish_held();
-        assert_eq!(value(&word), 0x2_0000_0005);
-        assert!(word.leave(LAST).is_none());
-        assert!(word.clear(NEXT, LAST) == (true, Some(Claim::Retired)));
-        assert_eq!(value(&word), 0x2_0000_0002);
-        assert!(matches!(word.look(LAST), Look::Retired));
+    #[inline(always)]
+    pub(crate) fn enters(&self, one: u64) -> u64 {
+        self.word.0.fetch_add(one, Acquire)
     }
 
-    #[test]
-    fn a_filling_that_is_dropped() {
-        let idle = word(0x1_0000_0004);
-        assert!(idle.skip(1, LAST) == Claim::Reusable);
-        assert_eq!(value(&idle), 0x2_0000_0004, "a stray get leaves later");
-        assert!(idle.leave(LAST).is_none());
-        assert!(idle.skip(2, LAST) == Claim::Retired);
-        assert_eq!(value(&idle), 0x2_0000_0002);
+    #[inline(always)]
+    pub(crate) fn leaves(&self, one: u64) -> u64 {
+        self.word.0.fetch_sub(one, Release)
     }
 
-    #[test]
-    fn a_place_without_an_object() {
-        let word = word(0x1_0000_0000);
-        word.vacate();
-        assert_eq!(value(&word), 0x1_0000_0002);
-        assert!(matches!(word.taken(), Taken::Vacant(1)));
-        assert!(matches!(word.look(LAST), Look::Vacant));
-        word.occupy();
-        assert_eq!(value(&word), 0x1_0000_0000);
+    /// It answers the state alone, PRESENT or MARKED, since the place stays published while the caller is counted. (So the compiler makes it one
+    /// instruction, where it would try again for the whole word.)
+    #[inline(always)]
+    pub(crate) fn marks(&self, bit: u64) -> u64 {
+        PUBLISHED_BIT + (self.word.0.fetch_or(bit, AcqRel) & bit)
     }
 
-    /// 2^28 references, of which each is 4.
-    #[test]
-    fn as_many_references_as_there_may_be() {
-        let full = word(0x1_4000_0001);
-        assert!(matches!(full.enter(KEY, LAST), Entered::Refused));
-        assert_eq!(full.enter_again(LAST), Err(GetError::References));
-        assert_eq!(value(&full), 0x1_4000_0001);
-        assert!(matches!(full.enter(NEXT, LAST), Entered::Missed));
-        assert!(full.clear(KEY, LAST) == (true, None));
-        let one_less = word(0x1_3fff_fffd);
-        assert!(matches!(one_less.enter(KEY, LAST), Entered::Held));
-        assert_eq!(value(&one_less), 0x1_4000_0001);
+    #[inline(always)]
+    pub(crate) fn claims(&self, old: u64, new: u64) -> u64 {
+        either(self.word.0.compare_exchange(old, new, Acquire, Relaxed))
     }
 
-    #[test]
-    fn a_clear_while_others_step() {
-        let word = word(0x1_0000_0009);
-        assert!(word.clear_by_steps(KEY, LAST) == (true, None));
-        assert_eq!(value(&word), 0x1_0000_000b);
-        assert!(word.clear_by_steps(KEY, LAST) == (false, None));
-        assert!(word.clear_by_steps(NEXT, LAST) == (false, None));
-        assert_eq!(value(&word), 0x1_0000_000b);
+    /// Where the look in front found another word, that look was the step.
+    #[inline(always)]
+    pub(crate) fn sweeps(&self, old: u64, new: u64) -> u64 {
+        if self.seen != old {
+            return self.seen;
+        }
+        self.strikes(old, new)
+    }
+
+    #[inline(always)]
+    pub(crate) fn strikes(&self, old: u64, new: u64) -> u64 {
+        either(self.word.0.compare_exchange(old, new, AcqRel, Relaxed))
     }
 }
+
+/// What a guest has who claimed a place: it is to be emptied (`emptying`).
+#[inline(always)]
+pub(crate) fn keep(grid: &Grid<'_>, _: Spot, generation: u32) -> Claimed {
+    claim_at(generation, grid.shape.last_generation)
+}
+
+/// What an exchange found.
+#[inline(always)]
+fn either(exchange: Result<u64, u64>) -> u64 {
+    exchange.unwrap_or_else(|found| found)
+}
+
+#[cfg(test)]
+mod tests;

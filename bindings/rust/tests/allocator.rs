@@ -6,7 +6,7 @@ mod hooked;
 use common::{alone, at_once, ALONE};
 use hooked::{BLOCKS, HOOK, HOOKED};
 use pardz::{Key, OwnedLane, Pool, Shape};
-use std::cell::OnceCell;
+use std::cell::{Cell, OnceCell};
 use std::sync::atomic::Ordering::SeqCst;
 use std::sync::{Arc, OnceLock};
 use std::{env, mem, ptr};
@@ -145,6 +145,38 @@ fn a_hook_creates_while_a_segment_opens() {
     });
 }
 
+thread_local! {
+    static WITHIN: Cell<Option<&'static Pool<String>>> = const { Cell::new(None) };
+    /// How many requests for memory pass before the hook creates.
+    static PASS: Cell<usize> = const { Cell::new(0) };
+}
+
+/// Another create within the first one in the pool's last shard, at each of its requests for memory: neither is refused.
+#[test]
+fn a_hook_creates_within_a_create() {
+    fn creates() {
+        PASS.set(PASS.get().wrapping_sub(1));
+        if PASS.get() == 0 {
+            let pool = WITHIN.get().expect("it is set");
+            _ = pool.put("by the hook").expect("a place");
+        }
+    }
+    alone("a_hook_creates_within_a_create", || {
+        for (lanes, pass) in [1, 2, 3].iter().flat_map(|it| (1..20).map(|at| (*it, at))) {
+            let pool: &Pool<String> = Box::leak(Box::new(Pool::open(shape(lanes)).unwrap()));
+            (2..2 * lanes).for_each(|_| _ = pool.put("x").unwrap());
+            WITHIN.set(Some(pool));
+            PASS.set(pass);
+            HOOK.set(creates);
+            let made = pool.put("y");
+            HOOK.set(|| ());
+            assert!(made.is_ok(), "{lanes}, {pass}: {made:?}");
+            let hooked = u32::from(PASS.get() as isize <= 0);
+            assert_eq!(pool.len() as u32, 2 * lanes - 1 + hooked);
+        }
+    });
+}
+
 /// The list of a thread's shards grows, and the hook looks for one of them there.
 #[test]
 fn a_hook_calls_while_a_thread_keeps_shards() {
@@ -152,20 +184,28 @@ fn a_hook_calls_while_a_thread_keeps_shards() {
         let pools: Vec<_> = (0..70).map(|_| small()).collect();
         at_once([|| with_hook(|| pools.iter().for_each(use_once))]);
         assert!(HOOKED.load(SeqCst) > 70);
+        // As the list grows, the hook's own pool isn't at hand for one of these threads.
+        for _ in 0..32 {
+            at_once([|| with_hook(|| (0..17).for_each(|_| use_once(&small())))]);
+        }
         for pool in &pools {
             assert!(pool.lane().is_ok(), "its shard was left");
         }
     });
 }
 
-fn small() -> Pool<String> {
-    let shape = Shape {
-        lanes: 1,
+/// Of two places for each lane.
+fn shape(lanes: u32) -> Shape {
+    Shape {
+        lanes,
         first_page: 2,
         pages: 1,
         ..Shape::default()
-    };
-    Pool::open(shape).unwrap()
+    }
+}
+
+fn small() -> Pool<String> {
+    Pool::open(shape(1)).unwrap()
 }
 
 fn use_once(pool: &Pool<String>) {

@@ -4,7 +4,7 @@ mod beside;
 mod common;
 
 use common::{limit, Gate};
-use pardz::{Buffer, CreateError, Field, Key, Lane, OpenError, Pool, Shape};
+use pardz::{Buffer, CreateError, Field, GetError, Key, Lane, OpenError, Pool, Shape};
 use std::io::{self, Read, Write};
 use std::sync::atomic::{AtomicBool, Ordering::SeqCst};
 use std::sync::{mpsc, Arc, Mutex, RwLock};
@@ -316,16 +316,24 @@ fn several_references_at_once() {
     );
 }
 
+/// That of a downgrade is the first of them. Beyond the most, nothing but a further one is refused, and the first that ends makes room.
 #[test]
 #[should_panic(expected = "268,435,456 references")]
 #[ignore = "it takes a second where it is optimized, and half a minute else"]
 fn too_many_references() {
     let pool = Pool::<Buffer>::open(shape(1)).unwrap();
-    let lane = pool.lane().unwrap();
-    let key = lane.create().unwrap().publish();
-    while let Some(reference) = lane.get(key) {
-        std::mem::forget(reference);
+    let first = pool.create().unwrap().downgrade();
+    let key = first.key();
+    for _ in 2..1 << 28 {
+        std::mem::forget(pool.get(key).expect("published"));
     }
+    let last = first.try_clone().expect("there is room for one");
+    assert_eq!(first.try_clone().err(), Some(GetError::References));
+    assert_eq!(pool.try_get_owned(key).err(), Some(GetError::References));
+    drop(last);
+    std::mem::forget(pool.try_get(key).expect("there is room again"));
+    assert!(pool.contains(key));
+    _ = pool.get(key);
 }
 
 #[test]

@@ -281,6 +281,10 @@ fn a_server_opens_as_many_places_as_it_needs() {
 #[test]
 fn a_pool_of_few_places_makes_few_shards() {
     let pool: Pool<String> = Limits::new().places(64).open().unwrap();
+    assert!(
+        (0..2).all(|_| pool.reserve(64).is_ok()),
+        "as many as it has"
+    );
     let keys: Vec<Key> = (0..64).map(|_| pool.put("x").unwrap()).collect();
     for _ in 0..100 {
         assert_eq!(pool.create().err(), Some(CreateError::Full));

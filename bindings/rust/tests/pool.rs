@@ -46,6 +46,12 @@ fn keys_that_are_none() {
         assert!(pool.get(Key::try_from(number).unwrap()).is_none());
     }
     assert!(Key::try_from(0).is_err());
+    // The first slot that the page hasn't, at the generation that the word of its free places would tell there.
+    let keys: Vec<Key> = (1..32).map(|_| put(&pool, "y")).collect();
+    assert!(pool.clear(Key::try_from(key).unwrap()));
+    let behind = Key::try_from(0xffff_ffff << 24 | 64).unwrap();
+    assert!(pool.get(behind).is_none() && !pool.clear(behind) && !pool.contains(behind));
+    assert!(keys.iter().all(|key| pool.contains(*key)));
 }
 
 #[test]

@@ -2,7 +2,7 @@
 mod common;
 
 use common::limit;
-use pardz::{Clear, CreateError, Key, Pool, Ref, Shape};
+use pardz::{Buffer, Clear, CreateError, Key, Pool, Ref, Shape};
 use std::borrow::Borrow;
 use std::hash::{DefaultHasher, Hash, Hasher};
 use std::mem::{align_of_val, forget, size_of, size_of_val};
@@ -160,7 +160,7 @@ fn references_compare_by_their_objects() {
     let text = |text: &str| lane.get(lane.put(text).unwrap()).unwrap();
     let (a, same, b) = (text("a"), text("a"), text("b"));
     assert!(a == same && a != b && a < b);
-    assert_eq!(a.max(b).as_str(), "b");
+    assert!(a.cmp(&b).is_lt() && b.cmp(&a).is_gt() && a.cmp(&same).is_eq());
     let hash = |text: &dyn Fn(&mut DefaultHasher)| {
         let mut hasher = DefaultHasher::new();
         text(&mut hasher);
@@ -174,6 +174,39 @@ fn references_compare_by_their_objects() {
     assert_eq!((borrowed.as_str(), same.to_string()), ("a", "a".into()));
 }
 
+/// By the pool, or by a lane in hand.
+#[test]
+fn a_put_is_a_copy() {
+    let (bytes, texts, lists) = (
+        Pool::<Buffer>::new(),
+        Pool::<String>::new(),
+        Pool::<Vec<u16>>::new(),
+    );
+    for _ in 0..3 {
+        let keys = [
+            bytes.put(b"abc").unwrap(),
+            bytes.lane().unwrap().put(b"abc").unwrap(),
+        ];
+        assert!(keys
+            .iter()
+            .all(|key| bytes.get(*key).unwrap()[..] == *b"abc" && bytes.clear(*key)));
+        let keys = [
+            texts.put("abc").unwrap(),
+            texts.lane().unwrap().put("abc").unwrap(),
+        ];
+        assert!(keys
+            .iter()
+            .all(|key| *texts.get(*key).unwrap() == "abc" && texts.clear(*key)));
+        let keys = [
+            lists.put(&[1, 2]).unwrap(),
+            lists.lane().unwrap().put(&[1, 2]).unwrap(),
+        ];
+        assert!(keys
+            .iter()
+            .all(|key| *lists.get(*key).unwrap() == [1, 2] && lists.clear(*key)));
+    }
+}
+
 /// A place whose reference was leaked isn't used again, and its object is dropped at the close.
 #[test]
 fn what_is_leaked() {
@@ -185,7 +218,11 @@ fn what_is_leaked() {
         }
     }
     let alive = Arc::new(());
-    let pool = Pool::<Counted>::open(shape(2, 4)).unwrap();
+    let pool = Pool::<Counted>::open(Shape {
+        tag: 255,
+        ..shape(2, 4)
+    })
+    .unwrap();
     let (lane, other) = (pool.lane().unwrap(), pool.lane().unwrap());
     let fill = |object: &mut Counted| object.0 = Some(Arc::clone(&alive));
     let marked = lane.put_with(fill).unwrap();
@@ -210,6 +247,37 @@ fn what_is_leaked() {
     assert_eq!(now, census);
     assert_eq!((census.marked, census.present, census.filling), (1, 1, 2));
     assert_eq!(Arc::strong_count(&alive), 1);
+}
+
+/// They keep the pool's memory for ever, and so its objects. What they have is in the count, and their keys do as they did.
+#[test]
+fn what_forgotten_owned_handles_leave() {
+    #[derive(Default)]
+    struct Counted(Option<Arc<()>>);
+    impl Clear for Counted {
+        fn clear(&mut self) {
+            self.0 = None;
+        }
+    }
+    let alive = Arc::new(());
+    let pool = Pool::<Counted>::open(shape(1, 4)).unwrap();
+    let fill = |object: &mut Counted| object.0 = Some(Arc::clone(&alive));
+    let marked = pool.put_with(fill).unwrap();
+    let present = pool.put_with(fill).unwrap();
+    forget(pool.get_owned(marked).unwrap());
+    forget(pool.get_owned(present).unwrap());
+    assert!(pool.clear(marked) && !pool.clear(marked));
+    let mut filling = pool.create_owned().unwrap();
+    fill(&mut filling);
+    forget(filling);
+    forget(pool.create_owned().unwrap().downgrade());
+    assert_eq!(pool.create().err(), Some(CreateError::Full));
+    assert!(pool.get(marked).is_none() && pool.get(present).is_some());
+    assert_eq!((pool.len(), pool.keys().next()), (2, Some(present)));
+    let census = pool.census();
+    assert_eq!((census.marked, census.present, census.filling), (1, 2, 1));
+    assert_eq!(pool.close(), census);
+    assert_eq!(Arc::strong_count(&alive), 4);
 }
 
 /// The objects of places that are retired stay there, and are dropped once.

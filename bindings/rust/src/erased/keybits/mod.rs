@@ -11,6 +11,6 @@ pub use key::Key;
 pub use place::{generation_of, place_of, shard_of, tag_of, Place, PAGE_NUMBERS};
 pub use shape::{Shape, ShapeFault, GREATEST_TAG, LARGEST_FIRST_PAGE, MOST_LANES, MOST_PAGES};
 pub use words::{
-    claimable, claimed, is_hit, marked, owes_claim, Life, State, MARK_BIT, ONE_COUNT,
+    claimable, claimed, is_hit, is_present, owes_claim, Life, State, MARK_BIT, ONE_COUNT,
     ONE_GENERATION, PUBLISHED_BIT,
 };

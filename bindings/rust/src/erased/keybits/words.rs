@@ -87,6 +87,12 @@ pub fn is_hit(key: u64, word: u64) -> bool {
     life.generation == generation_of(key) && life.state == State::Present
 }
 
+/// Whether a place with this lifecycle word is PRESENT: its object can be got.
+#[inline]
+pub fn is_present(word: u64) -> bool {
+    Life::of_word(word).state == State::Present
+}
+
 /// Whether the one who takes one from the count, and finds this word, owes a claim: MARKED with
 /// count 1.
 #[inline]
@@ -104,13 +110,6 @@ pub fn claimable(generation: u32) -> u64 {
         state: State::Marked,
     };
     life.word()
-}
-
-/// The lifecycle word after the object was marked, for a place that is present or marked and has a
-/// count of at least 1.
-#[inline]
-pub fn marked(word: u64) -> u64 {
-    word | MARK_BIT
 }
 
 /// The lifecycle word after a marked place with count 0 was claimed: idle at the next generation, or
