@@ -227,7 +227,14 @@ def many_threads(library, heap):
 
 
 def main():
-    library, heap = sys.argv[1:] or ("libpardz.so.0.2", "libpardz-heap.so.0.2")
+    words = sys.argv[1:] or ["libpardz.so.0.2", "libpardz-heap.so.0.2"]
+    if len(words) != 2:
+        sys.exit(__doc__.strip())
+    library, heap = words
+    try:
+        load(library, heap)
+    except OSError as error:
+        sys.exit(f"{error}\n\n{__doc__.strip()}")
     pool = Pool(library, heap, Shape(lanes=2, first_page=8, pages=2, last_generation=2**32 - 1, tag=1))
     keys = queue.Queue(maxsize=4)
 

@@ -1,21 +1,22 @@
 /* A sharded pool of byte buffers that are cleared in place and used again.
  *
- * A thread fills a buffer and publishes it under a key; any thread with a lane reads it by a reference. A clear hides the key at
- * once, and whoever lets go last empties the buffer, which keeps its memory and is filled again under a new key.
+ * A thread fills a buffer and publishes it under a key; other threads read it through a reference. A clear hides the key at once, and
+ * the last to leave empties the buffer, which keeps its memory and is filled again under a new key.
  *
- * There are three ways. pardz_open gives each thread a lane of its own. pardz_attach opens a pool that any number of threads call, each
- * call by a lane that it has for that call alone: pardz_pool_put and its like, which answer PARDZ_BUSY while others have all lanes.
- * With libpoolffi.a each thread calls by a slot of its own, which pardz_share fills; with libpardz.a and libpardz.so threads may also
- * call by one slot. These two alone have the third way, pardz_grow and pardz_any_put and its like: any thread calls, and has nothing of
- * the pool for it. They alone have pardz_pool_census, and owned references (pardz_own and its like), which go to any thread and outlive
- * the slot of their pool.
+ * There are three ways to use a pool. With pardz_open each thread has a lane of its own. pardz_attach opens a pool that any number of
+ * threads call; each call borrows a lane: pardz_pool_put and its like, which return PARDZ_BUSY while others have all lanes. With
+ * libpoolffi.a each thread calls through a slot of its own, which pardz_share fills; with libpardz.a and libpardz.so threads may also
+ * share one slot. Only these two have the third way, pardz_grow with pardz_any_put and its like: any thread calls, and needs nothing of
+ * the pool for it. Only they have pools of a program's structs (pardz_open_sized), pardz_pool_census, and owned references (pardz_own and
+ * its like), which go to any thread and outlive the slot of their pool.
  *
  * No call but pardz_await_put and its like locks anything or waits for another thread, unless the heap does so when memory is taken or
  * given back; but for a pardz_any_put or pardz_any_create that has its thread's first places, or further ones, and the exit of such a
- * thread, which share a lock for some steps. Memory is taken by pardz_open, pardz_attach, pardz_grow, pardz_share, pardz_create and
- * pardz_any_create where they open a page, pardz_append, pardz_room, pardz_put, pardz_pool_put, pardz_any_put, pardz_any_append,
- * pardz_any_room, pardz_own and pardz_any_own. It is given back by pardz_close, pardz_join, pardz_leave, pardz_unshare, pardz_detach, an open or attach
- * that is refused, whoever lets go last of a place that is used up, pardz_disown, and a thread's exit.
+ * thread, which share a lock for some steps. Memory is taken by pardz_open, pardz_attach, pardz_grow, pardz_open_sized, pardz_share,
+ * pardz_create and pardz_any_create where they open a page, and for the first struct in a place, pardz_append, pardz_room, pardz_put,
+ * pardz_pool_put, pardz_any_put, pardz_any_append, pardz_any_room, pardz_own and pardz_any_own. It is given back by pardz_close,
+ * pardz_join, pardz_leave, pardz_unshare, pardz_detach, an open or attach that is refused, whoever lets go last of a place that is used
+ * up, pardz_disown, and a thread's exit.
  *
  * Link with heap.c and one of two libraries, whose calls do the same: libpoolffi.a, which is proved up to these calls, for x86-64 of
  * level 2 (x86-64-v2) and ELF; or libpardz.a or libpardz.so, which cargo builds, and which are made from the proved sources and not
@@ -26,9 +27,9 @@
  * - A lane is in one call at a time. It may go from thread to thread, where a lock, the start or the join of a thread, or a
  *   sequentially consistent atomic stands between the calls of one thread and those of the next. Two threads that call at once
  *   need two lanes.
- * - A slot (pardz_lane, pardz_pool or pardz_owned) is PARDZ_EMPTY before pardz_open, pardz_attach, pardz_grow, pardz_share, pardz_own,
- *   pardz_any_own or pardz_own_again fills it. It may be moved by a plain copy, if the old copy isn't used again; nothing else writes to it or makes one
- *   up. Slots of threads that run at once best stand 64 bytes apart.
+ * - A slot (pardz_lane, pardz_pool or pardz_owned) is PARDZ_EMPTY before pardz_open, pardz_attach, pardz_grow, pardz_open_sized,
+ *   pardz_share, pardz_own, pardz_any_own or pardz_own_again fills it. It may be moved by a plain copy, if the old copy isn't used again;
+ *   nothing else writes to it or makes one up. Slots of threads that run at once best stand 64 bytes apart.
  * - With libpoolffi.a a pool's slot is in one call at a time, as a lane is. With the other libraries many threads may be in calls with it
  *   at once, but in none while it is attached, unshared or detached: a lock, the start or join of a thread, or such an atomic stands
  *   between. So it is with the slot of an owned reference and the calls that fill and empty it (pardz_own, pardz_any_own,
@@ -43,21 +44,21 @@
  * - No call is made from a signal handler, or in the forked child of a process with threads; none is left by a jump, an exception
  *   of the heap or an asynchronous cancellation.
  *
- * Each call answers a code. At any code but PARDZ_OK nothing was written through a pointer, and all is as before the call, except:
+ * Each call returns a code. At any code but PARDZ_OK nothing was written through a pointer, and all is as before the call, except:
  *
- * - PARDZ_GONE: where the key was cleared meanwhile, the call may have been the last to let go of its bytes, which are emptied then.
+ * - PARDZ_GONE: if the key was cleared meanwhile, the call may have been the last to let go of its bytes, which are emptied then.
  * - PARDZ_MEMORY of an append or a room: an earlier room of the filling has ended. Its bytes are as before.
  * - PARDZ_MEMORY of pardz_put, pardz_pool_put and pardz_any_put: a page may be open, and a place have used up its next key (if that was
  *   its last, it is retired).
- * - PARDZ_MEMORY of pardz_own: where the key was cleared meanwhile, the call may have been the last to let go of it.
+ * - PARDZ_MEMORY of pardz_own: if the key was cleared meanwhile, the call may have been the last to let go of it.
  * - PARDZ_SHARED of pardz_close: the slot may be empty, and the pool then keeps its memory.
  * - pardz_close_all: what it joined before it was refused is joined.
- * - pardz_put_several and its like: what was done before is done, and told.
+ * - pardz_put_several and its like: what was done before is done, and reported.
  *
- * A key names a place of a pool, how often the place was used, and the pool's tag; it is never 0. It may be sent to any thread; one
- * that came by a lock, a channel or such an atomic is published for whoever hears it. Calls may be given any number: one that isn't
- * published is answered by a code. A key of another pool is told by its tag alone. Pools with one tag give out the same keys, and
- * each takes the other's for its own: let pools whose keys may be mixed up have different tags.
+ * A key names a place of a pool, how often the place was used, and the pool's tag; it is never 0. It may be sent to any thread; a key
+ * that came through a lock, a channel or such an atomic is published for whoever receives it. Calls accept any number: for one that
+ * isn't published they return a code. A key of another pool is recognized by its tag alone. Pools with one tag give out the same keys,
+ * and each takes the other's for its own: give pools whose keys may be mixed up different tags.
  *
  * A clear wipes nothing: bytes that were cleared stay in memory until they are written over, and what is freed isn't wiped either.
  */
@@ -101,7 +102,7 @@ typedef struct pardz_shape {
     uint32_t first_page;      /* places of a lane's first page: 1, 2, 4, 8, 16, 32 or 64 */
     uint32_t pages;           /* pages of a lane: 1 to 16 */
     uint32_t last_generation; /* how often a place is used before it is retired: from 1; UINT32_MAX for most programs */
-    uint32_t tag;             /* 0 to 255: stands in each key, and tells it from those of pools with another tag */
+    uint32_t tag;             /* 0 to 255: is in each key, and tells it from those of pools with another tag */
 } pardz_shape;
 
 /* The place of a pool that any thread calls: 16 bytes of the caller's. pardz_pool pool = PARDZ_EMPTY; */
@@ -136,6 +137,15 @@ typedef struct pardz_limits {
 /* As far as keys go: 16,384 threads at once, each with 44,992 places, or more where it has those of threads that have exited. */
 #define PARDZ_LIMITS { UINT64_MAX, UINT32_MAX, 0, 256, UINT32_MAX }
 
+/* What the objects of a pool of pardz_open_sized are, as { sizeof(struct session), 1, close_session, NULL, NULL }. */
+typedef struct pardz_objects {
+    size_t size;     /* bytes of each; 0: they are buffers of any length */
+    uint32_t zeroed; /* 1: each begins with zeros; 0: only the first in a place does, and each further one as the last was left */
+    void (*empty)(void *context, void *object, size_t size); /* or NULL */
+    void (*end)(void *context, void *object, size_t size);   /* or NULL */
+    void *context;
+} pardz_objects;
+
 /* A reference of a call by any thread, with its bytes. A copy is the same reference. */
 typedef struct pardz_ref {
     const void *at; /* not written where len is 0 */
@@ -143,10 +153,10 @@ typedef struct pardz_ref {
     uint64_t key; /* 0 once it is released */
 } pardz_ref;
 
-/* A buffer that isn't published yet, of a call by any thread. */
+/* A buffer or an object that isn't published yet, of a call by any thread. */
 typedef struct pardz_filling {
+    void *at;     /* of a pool of pardz_open_sized: the object, to be written to until the filling ends; else it tells nothing */
     uint64_t key; /* under which it will be published; 0 where there is none: it never was, or it ended */
-    size_t lent;  /* the library's: how many bytes pardz_any_room has lent */
 } pardz_filling;
 
 /* What the places of a pool were when it was closed. The six add up to lanes times places of a lane; or of a pool that grows, to the
@@ -160,8 +170,8 @@ typedef struct pardz_census {
     uint32_t retired;  /* used up: its last generation was cleared */
 } pardz_census;
 
-/* What a lane tells of its pool and of itself while the pool is open. A later version may have more fields, behind these. libpoolffi.a
- * doesn't tell the last two, which are then 0 throughout. */
+/* What a lane reports of its pool and of itself while the pool is open. A later version may have more fields, behind these.
+ * libpoolffi.a doesn't report the last two, which are then 0 throughout. */
 typedef struct pardz_stats {
     pardz_shape shape;   /* what the pool was opened with */
     uint32_t lane;       /* the lane's number: the index of its slot at the open */
@@ -187,7 +197,7 @@ enum {
     PARDZ_OTHER_POOL = 10,  /* join: the lanes are of different pools */
     PARDZ_LANES = 11,       /* open: count isn't the shape's number of lanes; join, close: not the lane whose turn it is */
     PARDZ_SHAPE = 12,       /* open, attach, grow: the shape is outside its limits */
-    PARDZ_ROOM = 13,        /* wrote: more bytes than the last pardz_room gave */
+    PARDZ_ROOM = 13,        /* wrote: more bytes than the last pardz_room gave; by any thread: objects of a fixed size have no such bytes */
     PARDZ_SHARED = 14,      /* close: all lanes were joined, but some into another pool that was opened under the same number;
                                detach: another slot has the pool too */
     PARDZ_BUSY = 15         /* pardz_pool_put and its like, share, and a put or create by any thread: others have all lanes, or places,
@@ -257,14 +267,14 @@ static inline uint32_t pardz_open(const pardz_shape *shape, pardz_lane *lanes, s
 
 /* A lane's fillings: at most 16 at once, each named by the key under which it will be published.
  *
- * Begins an empty filling, and answers its key. It takes memory only where it opens a page.
+ * Begins an empty filling, and returns its key. It takes memory only where it opens a page.
  * PARDZ_MEMORY, PARDZ_EMPTY_LANE, PARDZ_FULL, PARDZ_FILLINGS. */
 uint32_t pardz_create(pardz_lane *lane, uint64_t *key);
 
 /* Appends to a filling. An earlier room ends, even where memory is refused. `bytes` may belong to a reference, but not to this
  * filling.
  * PARDZ_MEMORY, PARDZ_EMPTY_LANE, PARDZ_NO_FILLING. */
-uint32_t pardz_append(pardz_lane *lane, uint64_t key, const uint8_t *bytes, size_t len);
+uint32_t pardz_append(pardz_lane *lane, uint64_t key, const void *bytes, size_t len);
 
 /* Lends `count` bytes, zeros at first, behind those of the filling, which they continue, so they begin at any address. They may be
  * written to until the next call with this filling, and belong to it only as far as pardz_wrote says so. An earlier room ends, even
@@ -284,10 +294,10 @@ uint32_t pardz_publish(pardz_lane *lane, uint64_t key);
  * PARDZ_EMPTY_LANE, PARDZ_NO_FILLING, PARDZ_REFERENCES. */
 uint32_t pardz_downgrade(pardz_lane *lane, uint64_t key);
 
-/* Publishes bytes in a place of their own, and answers the key: as a create, an append and a publish, and faster. It needs no
+/* Publishes bytes in a place of their own, and returns the key: as a create, an append and a publish, and faster. It needs no
  * filling to be free. Where memory is refused for the bytes, a place that was had is free again, under its next key, or retired.
  * PARDZ_MEMORY, PARDZ_EMPTY_LANE, PARDZ_FULL. */
-uint32_t pardz_put(pardz_lane *lane, const uint8_t *bytes, size_t len, uint64_t *key);
+uint32_t pardz_put(pardz_lane *lane, const void *bytes, size_t len, uint64_t *key);
 
 /* Gives a filling up. Its place is lost until the pool is closed.
  * PARDZ_EMPTY_LANE, PARDZ_NO_FILLING. */
@@ -309,7 +319,7 @@ uint32_t pardz_read(pardz_lane *lane, uint64_t key, const uint8_t **at, size_t *
  * PARDZ_EMPTY_LANE, PARDZ_NO_REFERENCE. */
 uint32_t pardz_release(pardz_lane *lane, uint64_t key);
 
-/* Clears a published key: no get finds it any more. Of all clears of a key one answers PARDZ_OK. The bytes stay until nobody has
+/* Clears a published key: no get finds it any more. Of all clears of a key one returns PARDZ_OK. The bytes stay until nobody has
  * a reference; whoever lets go last empties the buffer, and its place is free again.
  * PARDZ_EMPTY_LANE, PARDZ_GONE. */
 uint32_t pardz_clear(pardz_lane *lane, uint64_t key);
@@ -333,8 +343,8 @@ static inline uint32_t pardz_stats_of(pardz_lane *lane, pardz_stats *stats) {
     return code;
 }
 
-/* Several at once, one after the other: each ends at the first code that isn't PARDZ_OK and answers it, and *done is how many went
- * well before. So they write also where they answer another code.
+/* Several at once, one after the other: each ends at the first code that isn't PARDZ_OK and returns it, and *done is how many went
+ * well before. So they write also if they return another code.
  *
  * Some bytes: those of a program, or those that a pool lent. */
 typedef struct pardz_bytes {
@@ -403,7 +413,7 @@ static inline uint32_t pardz_close_all(pardz_lane *lanes, size_t count, pardz_ce
 }
 
 /* A pool for any number of threads, which come and go. Each call has one of its lanes for its own time. Where others have all lanes
- * that could serve it, it answers PARDZ_BUSY at once and has done nothing: who may wait calls pardz_await_put and its like. `from` says
+ * that could serve it, it returns PARDZ_BUSY at once and has done nothing: who may wait calls pardz_await_put and its like. `from` says
  * at which lane a call begins to look; any number will do, modulo the number of lanes, and threads that give different ones meet less.
  *
  * The calls of a thread are in its order, also where different lanes serve them: a thread finds what it put before, and misses what
@@ -423,10 +433,10 @@ uint32_t pardz_share(const pardz_pool *pool, pardz_pool *other);
  * PARDZ_EMPTY_LANE. */
 uint32_t pardz_unshare(pardz_pool *pool);
 
-/* Publishes bytes in a place of their own, and answers the key, as pardz_put. PARDZ_FULL tells of the places of the lane that served it
+/* Publishes bytes in a place of their own, and returns the key, as pardz_put. PARDZ_FULL tells of the places of the lane that served it
  * alone: another `from` may find one.
  * PARDZ_MEMORY, PARDZ_EMPTY_LANE, PARDZ_FULL, PARDZ_BUSY. */
-uint32_t pardz_pool_put(const pardz_pool *pool, uint32_t from, const uint8_t *bytes, size_t len, uint64_t *key);
+uint32_t pardz_pool_put(const pardz_pool *pool, uint32_t from, const void *bytes, size_t len, uint64_t *key);
 
 /* Takes a reference, and tells the bytes and which lane keeps it. They stand where they are, and don't change, until it is released, or
  * the pool is detached; any thread may read them meanwhile, and any may release it. lent->at isn't written where lent->len is 0.
@@ -459,39 +469,53 @@ uint32_t pardz_detach(pardz_pool *pool, pardz_census *census);
  * each other's keys.
  *
  * Opens a pool that grows into an empty slot: it takes memory as it fills, page by page. It is shared, unshared, counted and detached as
- * one of pardz_attach. (It has no lanes: pardz_pool_put, pardz_pool_get and pardz_pool_clear answer PARDZ_EMPTY_LANE, and
+ * one of pardz_attach. (It has no lanes: pardz_pool_put, pardz_pool_get and pardz_pool_clear return PARDZ_EMPTY_LANE, and
  * pardz_pool_release PARDZ_NO_REFERENCE.) A thread that has put or created keeps some hundred bytes of the heap until it exits.
  * PARDZ_MEMORY, PARDZ_FULL_LANE, PARDZ_SHAPE. */
 uint32_t pardz_grow(const pardz_limits *limits, pardz_pool *pool);
 
-/* Publishes bytes in a place of their own, and answers the key. PARDZ_BUSY: other threads, or other calls, have all places that it could
- * have one of.
- * PARDZ_MEMORY, PARDZ_EMPTY_LANE, PARDZ_FULL, PARDZ_BUSY. */
+/* Opens a pool that grows, as pardz_grow does, but of objects of a fixed size, as a struct of the program's has, each at a multiple of 16.
+ * They are put as a whole; or begun by pardz_any_create, written to at filling.at, and published. Nothing is appended to them. Where the
+ * size is 0 they are buffers, as of pardz_grow.
+ *
+ * The program may be told when an object ends. objects->empty is called once for each that was begun, by the call that lets go of it last:
+ * when its key was cleared and no reference is left, when it is dropped unpublished, or when the pool's memory goes. It frees what the
+ * object refers to; or it leaves that there for the next object in the place, which begins with it unless objects are zeroed. objects->end
+ * is called behind the last of these, when the object's memory goes: its place has used up its last generation, or the pool's memory goes.
+ * That goes by the detach, or by the last owned reference behind it. Both calls have the object alone. They run on any thread, also for
+ * several objects at once, and may call pools, but not one that is being detached. Of buffers objects->empty is called alone, for each that
+ * has bytes.
+ * PARDZ_MEMORY, PARDZ_FULL_LANE, PARDZ_SHAPE. */
+uint32_t pardz_open_sized(const pardz_limits *limits, const pardz_objects *objects, pardz_pool *pool);
+
+/* Publishes bytes in a place of their own, and returns the key. PARDZ_BUSY: other threads, or other calls, have all places that it could
+ * have one of. PARDZ_ROOM: the pool's objects have another size.
+ * PARDZ_MEMORY, PARDZ_EMPTY_LANE, PARDZ_FULL, PARDZ_ROOM, PARDZ_BUSY. */
 uint32_t pardz_any_put(const pardz_pool *pool, const void *bytes, size_t len, uint64_t *key);
 
-/* Begins an empty filling, in any number. Any thread goes on with it.
+/* Begins an empty filling, or an object, in any number. Any thread goes on with it.
  * PARDZ_MEMORY, PARDZ_EMPTY_LANE, PARDZ_FULL, PARDZ_BUSY. */
 uint32_t pardz_any_create(const pardz_pool *pool, pardz_filling *filling);
 
 /* Appends to a filling. An earlier room ends, even where memory is refused. `bytes` may belong to a reference, but not to this filling.
- * PARDZ_MEMORY, PARDZ_EMPTY_LANE, PARDZ_NO_FILLING. */
-uint32_t pardz_any_append(const pardz_pool *pool, pardz_filling *filling, const void *bytes, size_t len);
+ * PARDZ_MEMORY, PARDZ_EMPTY_LANE, PARDZ_NO_FILLING; PARDZ_ROOM: it is an object of a fixed size. */
+uint32_t pardz_any_append(const pardz_pool *pool, const pardz_filling *filling, const void *bytes, size_t len);
 
 /* Lends `count` bytes, zeros at first, behind those of the filling, which they continue. They may be written to until the next call with
  * this filling, and belong to it only as far as pardz_any_wrote says so. An earlier room ends, even where memory is refused. *at isn't
  * written where count is 0.
- * PARDZ_MEMORY, PARDZ_EMPTY_LANE, PARDZ_NO_FILLING. */
-uint32_t pardz_any_room(const pardz_pool *pool, pardz_filling *filling, size_t count, uint8_t **at);
+ * PARDZ_MEMORY, PARDZ_EMPTY_LANE, PARDZ_NO_FILLING; PARDZ_ROOM: it is an object of a fixed size. */
+uint32_t pardz_any_room(const pardz_pool *pool, const pardz_filling *filling, size_t count, uint8_t **at);
 
 /* The first `count` of the bytes that the last pardz_any_room lent now belong to the filling, and the others don't.
  * PARDZ_EMPTY_LANE, PARDZ_NO_FILLING, PARDZ_ROOM. */
-uint32_t pardz_any_wrote(const pardz_pool *pool, pardz_filling *filling, size_t count);
+uint32_t pardz_any_wrote(const pardz_pool *pool, const pardz_filling *filling, size_t count);
 
-/* Publishes a filling, which ends, and answers its key: from now on each thread finds its bytes.
+/* Publishes a filling, which ends, and returns its key: from now on each thread finds its bytes.
  * PARDZ_EMPTY_LANE, PARDZ_NO_FILLING. */
 uint32_t pardz_any_publish(const pardz_pool *pool, pardz_filling *filling, uint64_t *key);
 
-/* Publishes a filling, which ends, and answers a reference to it.
+/* Publishes a filling, which ends, and returns a reference to it.
  * PARDZ_EMPTY_LANE, PARDZ_NO_FILLING. */
 uint32_t pardz_any_downgrade(const pardz_pool *pool, pardz_filling *filling, pardz_ref *ref);
 
@@ -521,11 +545,12 @@ uint32_t pardz_any_own(const pardz_pool *pool, const pardz_ref *ref, pardz_owned
  * PARDZ_EMPTY_LANE, PARDZ_GONE. */
 uint32_t pardz_any_clear(const pardz_pool *pool, uint64_t key);
 
-/* The same calls as those by a pool's lanes, for who may wait: they try again, from the next lane on, until a lane serves them. They answer each other code.
+/* The same calls as those by a pool's lanes, for who may wait: they try again, from the next lane on, until a lane serves them. They
+ * return every other code.
  *
  * A pardz_pool_put. PARDZ_FULL says that 64 tries, each from the next lane on, found no free place.
  * PARDZ_MEMORY, PARDZ_EMPTY_LANE, PARDZ_FULL. */
-static inline uint32_t pardz_await_put(const pardz_pool *pool, uint32_t from, const uint8_t *bytes, size_t len, uint64_t *key) {
+static inline uint32_t pardz_await_put(const pardz_pool *pool, uint32_t from, const void *bytes, size_t len, uint64_t *key) {
     uint32_t code, full = 0;
     do {
         code = pardz_pool_put(pool, from++, bytes, len, key);
@@ -619,7 +644,8 @@ typedef struct pardz_heap {
 } pardz_heap;
 
 /* From now on heap.c takes memory from this heap, of which it keeps a copy; NULL: from malloc and its like. It is called while no pool
- * is open and no thread is in a call, and before the first thread puts into a pool of pardz_grow, or after all such have exited. A heap of a program's own, in the place of heap.c, needn't have it. */
+ * is open and no thread is in a call, and before the first thread puts into a pool that grows, or after all such have exited. A heap of a
+ * program's own, in the place of heap.c, needn't have it. */
 void pardz_set_heap(const pardz_heap *heap);
 
 #ifdef __cplusplus

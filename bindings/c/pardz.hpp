@@ -94,9 +94,7 @@ public:
             pardz_clear(held_.lane, held_.key);
     }
     std::uint64_t key() const noexcept { return held_.key; }
-    void append(const void *bytes, std::size_t len) {
-        must(pardz_append(held_.lane, held_.key, static_cast<const std::uint8_t *>(bytes), len));
-    }
+    void append(const void *bytes, std::size_t len) { must(pardz_append(held_.lane, held_.key, bytes, len)); }
     /// So many bytes to write to, behind those of the filling, until the next call with it. NULL where count is 0.
     std::uint8_t *room(std::size_t count) {
         std::uint8_t *at = nullptr;
@@ -133,7 +131,7 @@ public:
     /// Publishes bytes, and answers their key.
     std::uint64_t put(const void *bytes, std::size_t len) {
         std::uint64_t key = 0;
-        must(pardz_put(slot(), static_cast<const std::uint8_t *>(bytes), len, &key));
+        must(pardz_put(slot(), bytes, len, &key));
         return key;
     }
     /// A filling without bytes.
@@ -295,6 +293,8 @@ public:
             pardz_any_drop(pool_, &filling_);
     }
     std::uint64_t key() const noexcept { return filling_.key; }
+    /// Of a pool of objects: where the object stands, until it is published.
+    void *object() const noexcept { return filling_.at; }
     void append(const void *bytes, std::size_t len) { must(pardz_any_append(pool_, &filling_, bytes, len)); }
     /// So many bytes to write to, behind those of the filling, until the next call with it. NULL where count is 0.
     std::uint8_t *room(std::size_t count) {
@@ -321,7 +321,7 @@ private:
     friend class shared_pool;
     explicit shared_filling(const pardz_pool *pool) noexcept : pool_(pool) {}
     const pardz_pool *pool_;
-    pardz_filling filling_ = {0, 0};
+    pardz_filling filling_ = {nullptr, 0};
 };
 
 /// For a shared_pool that grows, but no further than its limits: shared_pool pool(pardz::grows, limits).
@@ -334,6 +334,10 @@ public:
     shared_pool() : shared_pool(grows, PARDZ_LIMITS) {}
     shared_pool(grows_t, const pardz_limits &limits) { must(pardz_grow(&limits, &slot_)); }
     explicit shared_pool(const pardz_shape &shape) { must(pardz_attach(&shape, &slot_)); }
+    /// One that grows, of such objects.
+    explicit shared_pool(const pardz_objects &objects, const pardz_limits &limits = PARDZ_LIMITS) {
+        must(pardz_open_sized(&limits, &objects, &slot_));
+    }
     shared_pool(const shared_pool &) = delete;
     shared_pool &operator=(const shared_pool &) = delete;
     ~shared_pool() {
@@ -346,7 +350,7 @@ public:
         await([&] { return pardz_any_put(&slot_, bytes, len, &key); });
         return key;
     }
-    /// A filling without bytes.
+    /// A filling without bytes, or an object.
     shared_filling create() const {
         shared_filling filling(&slot_);
         await([&] { return pardz_any_create(&slot_, &filling.filling_); });

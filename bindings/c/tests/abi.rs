@@ -1,11 +1,11 @@
 //! Tests of `library`: types and codes are laid out and numbered there as the lines of `abi.def` say, which the header is compared with too;
 //! and each call has the parameters that the header declares.
 use crate::code::{Refusal, OK};
+use crate::content::Kind;
 use crate::exports::*;
-use crate::filling::PoolFilling;
+use crate::handles::{Out, OwnedSlot, PoolFilling, PoolLent, PoolRef};
 use crate::heap::Block;
-use crate::lane::{LaneSlot, NUMBERS};
-use crate::reference::{OwnedSlot, PoolLent, PoolRef};
+use crate::lane::{LaneSlot, Stats};
 use crate::store::{PoolLimits, PoolSlot};
 use pardz::{Census, Shape};
 use std::ffi::{c_char, c_void};
@@ -15,20 +15,6 @@ use std::mem::{align_of, offset_of, size_of};
 fn size_of_field<S, F>(_: impl FnOnce(&S) -> &F) -> usize {
     size_of::<F>()
 }
-
-/// What a lane tells by `pardz_numbers`, number after number.
-#[repr(C)]
-struct PoolStats {
-    shape: Shape,
-    lane: u32,
-    references: u32,
-    fillings: u32,
-    joined: u32,
-    opened: u32,
-    places: Census,
-}
-
-const _: () = assert!(size_of::<PoolStats>() == size_of::<[u32; NUMBERS]>());
 
 /// The lines of a type and of its fields.
 macro_rules! lines {
@@ -70,7 +56,16 @@ fn is_as_the_header_says() {
     let mut here = Vec::new();
     here.extend(lines!("pardz_lane" is LaneSlot: at full));
     here.extend(lines!("pardz_pool" is PoolSlot: at full));
-    here.extend(lines!("pardz_lent" is PoolLent: at len key lane));
+    // (One that a lane keeps begins as any other.)
+    let held = lines!("pardz_lent" is PoolRef: at len key);
+    let [lent, first, lane] = lines!("pardz_lent" is PoolLent: held lane);
+    assert_eq!(first, "FIELD(pardz_lent, held, 0, 24)");
+    here.extend(
+        [lent]
+            .into_iter()
+            .chain(held.into_iter().skip(1))
+            .chain([lane]),
+    );
     // (Where an owned reference is, its word is the key.)
     here.extend(
         lines!("pardz_owned" is OwnedSlot: at full).map(|line| line.replace("full", "key")),
@@ -78,11 +73,12 @@ fn is_as_the_header_says() {
     here.extend(
         lines!("pardz_limits" is PoolLimits: places threads first_tag tags last_generation),
     );
+    here.extend(lines!("pardz_objects" is Kind: size zeroed empty end context));
     here.extend(lines!("pardz_ref" is PoolRef: at len key));
-    here.extend(lines!("pardz_filling" is PoolFilling: key lent));
+    here.extend(lines!("pardz_filling" is PoolFilling: at key));
     here.extend(lines!("pardz_shape" is Shape: lanes first_page pages last_generation tag));
     here.extend(
-        lines!("pardz_stats" is PoolStats: shape lane references fillings joined opened places),
+        lines!("pardz_stats" is Stats: shape lane references fillings joined opened places),
     );
     here.extend(lines!("pardz_census" is Census: free unopened filling present marked retired));
     here.extend(lines!("pardz_block" is Block: ok at));
@@ -112,7 +108,6 @@ in_c! {
     Out<'_, usize>: "size_t *",
     Out<'_, u64>: "uint64_t *",
     *mut u32: "uint32_t *",
-    *const u8: "const uint8_t *",
     *const c_void: "const void *",
     Out<'_, *mut u8>: "uint8_t **",
     Out<'_, *const u8>: "const uint8_t **",
@@ -125,10 +120,12 @@ in_c! {
     &PoolLent: "const pardz_lent *",
     &Shape: "const pardz_shape *",
     &PoolLimits: "const pardz_limits *",
+    &Kind: "const pardz_objects *",
     Out<'_, PoolRef>: "pardz_ref *",
     &mut PoolRef: "pardz_ref *",
     &PoolRef: "const pardz_ref *",
     Out<'_, PoolFilling>: "pardz_filling *",
+    &PoolFilling: "const pardz_filling *",
     &mut PoolFilling: "pardz_filling *",
     &mut OwnedSlot: "pardz_owned *",
     &OwnedSlot: "const pardz_owned *",
@@ -209,6 +206,7 @@ fn has_the_parameters_that_the_header_declares() {
         prototype!(pardz_pool_census(_ _)),
         prototype!(pardz_detach(_ _)),
         prototype!(pardz_grow(_ _)),
+        prototype!(pardz_open_sized(_ _ _)),
         prototype!(pardz_any_put(_ _ _ _)),
         prototype!(pardz_any_create(_ _)),
         prototype!(pardz_any_append(_ _ _ _)),

@@ -64,7 +64,7 @@ static void grows(void) {
 static void empties(const pardz_pool *pool) {
     const pardz_pool empty = PARDZ_EMPTY;
     const pardz_pool *const pools[] = { &empty, pool };
-    pardz_filling filling = { 0, 0 };
+    pardz_filling filling = { NULL, 0 };
     pardz_ref ref = { NULL, 0, 0 }, other = UNREF;
     pardz_owned owned = PARDZ_EMPTY;
     uint64_t key = 99;
@@ -193,7 +193,7 @@ static void *goes_on(void *argument) {
 }
 
 static void hands_on(const pardz_pool *pool) {
-    struct handed handed = { pool, { 0, 0 }, UNREF, UNREF, 0 };
+    struct handed handed = { pool, { NULL, 0 }, UNREF, UNREF, 0 };
     pthread_t thread;
     EXPECT(GET, OK, pardz_any_get(pool, put(pool, "handed"), &handed.ref));
     EXPECT(CREATE, OK, pardz_any_create(pool, &handed.filling));
@@ -256,7 +256,7 @@ static void growing(void) {
 /* Puts that find no places of their own: of another thread where one thread may have some; and behind the last. */
 static void *has_none(void *pool) {
     uint64_t key = 99;
-    pardz_filling filling = { 99, 99 };
+    pardz_filling filling = { NULL, 99 };
     EXPECT(PUT, BUSY, pardz_any_put(pool, NULL, 0, &key));
     EXPECT(CREATE, BUSY, pardz_any_create(pool, &filling));
     CHECK(key == 99 && filling.key == 99);
@@ -266,7 +266,7 @@ static void *has_none(void *pool) {
 static void limits(void) {
     const pardz_limits one = { 64, 1, 0, 1, UINT32_MAX };
     pardz_pool pool = PARDZ_EMPTY;
-    pardz_filling filling = { 99, 99 };
+    pardz_filling filling = { NULL, 99 };
     pardz_census census;
     pthread_t thread;
     uint64_t key = 0, none = 99;
@@ -321,7 +321,7 @@ static void *lives_refused(void *nothing) {
     pardz_pool pool = PARDZ_EMPTY;
     uint8_t bytes[300] = { 1 }, *to = nowhere;
     uint64_t key = 99;
-    pardz_filling filling = { 99, 99 };
+    pardz_filling filling = { NULL, 99 };
     heap_begin(first, last);
     if (lacks_memory(GROW, pardz_grow(&LIMITS, &pool))) {
         CHECK(pool.full == 0 && heap_blocks == 0);

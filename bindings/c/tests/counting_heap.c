@@ -2,8 +2,8 @@
 
 #include <stdlib.h>
 
-long heap_blocks, heap_requests, heap_refused;
-size_t heap_size;
+atomic_long heap_blocks, heap_requests, heap_refused;
+atomic_size_t heap_size;
 static long from, to;
 
 void heap_begin(long first, long last) {
@@ -14,8 +14,8 @@ void heap_begin(long first, long last) {
 
 static int refuses(size_t size) {
     heap_size = size;
-    heap_requests++;
-    if (from == 0 || heap_requests < from || heap_requests > to)
+    const long request = ++heap_requests;
+    if (from == 0 || request < from || request > to)
         return 0;
     heap_refused++;
     return 1;

@@ -2,16 +2,17 @@
 #ifndef COUNTING_HEAP_H
 #define COUNTING_HEAP_H
 
+#include <stdatomic.h>
 #include <stddef.h>
 
 /* The blocks that are taken now, and the requests (malloc and realloc) since heap_begin. */
-extern long heap_blocks, heap_requests;
+extern atomic_long heap_blocks, heap_requests;
 
 /* How many requests were refused, in all. */
-extern long heap_refused;
+extern atomic_long heap_refused;
 
 /* The bytes that the last request was for. */
-extern size_t heap_size;
+extern atomic_size_t heap_size;
 
 /* Counts requests from 1 again, and refuses those from `first` to `last` (none where first is 0). */
 void heap_begin(long first, long last);

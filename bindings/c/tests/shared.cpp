@@ -78,10 +78,39 @@ static void growing() {
     CHECK(code_of([] { pardz::shared_pool none(pardz::grows, {1, 1, 0, 0, 1}); }) == PARDZ_SHAPE);
 }
 
+// Objects of a fixed size, each of which is emptied once.
+struct point {
+    long x, y;
+};
+
+extern "C" void count(void *context, void *object, std::size_t size) {
+    const point *emptied = static_cast<const point *>(object);
+    *static_cast<long *>(context) += size == sizeof(point) ? emptied->x : 1000;
+}
+
+static void sized() {
+    long sum = 0;
+    const pardz_objects points = {sizeof(point), 0, count, nullptr, &sum};
+    pardz::shared_pool pool(points);
+    pardz::shared_filling filling = pool.create();
+    point *begun = static_cast<point *>(filling.object());
+    CHECK(begun->x == 0 && begun->y == 0 && code_of([&] { filling.append("x", 1); }) == PARDZ_ROOM);
+    begun->x = 1;
+    const pardz::shared_reference found = filling.downgrade();
+    const point put = {2, 3};
+    const std::uint64_t key = pool.put(&put, sizeof put);
+    CHECK(reinterpret_cast<const point *>(found.data())->x == 1 && found.size() == sizeof(point));
+    CHECK(pool.clear(key) && sum == 2 && pool.clear(found.key()) && sum == 2);
+    pool.create();
+    CHECK(sum == 4 && code_of([&] { pool.put(&put, 1); }) == PARDZ_ROOM);
+    CHECK(code_of([&] { pardz::shared_pool none(points, {0, 1, 0, 1, 1}); }) == PARDZ_SHAPE);
+}
+
 // What one thread puts, another reads, clears and gives back, over fewer lanes than threads.
 int main() {
     owned();
     growing();
+    sized();
     const pardz_shape shape = {2, 8, 1, UINT32_MAX, 3};
     pardz::shared_pool pool(shape);
     pardz::shared_reference kept = pool.get(1);

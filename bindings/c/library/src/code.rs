@@ -1,4 +1,6 @@
 //! The codes of the header.
+use pardz::{CreateError, GetError, KeyError, MemoryRefused, OpenError};
+use std::collections::TryReserveError;
 
 /// All went well.
 pub(crate) const OK: u32 = 0;
@@ -45,8 +47,41 @@ pub(crate) type Answer<V = ()> = Result<V, Refusal>;
 /// The code of what a call answers.
 #[inline(always)]
 pub(crate) fn code(call: impl FnOnce() -> Answer) -> u32 {
-    match call() {
-        Ok(()) => OK,
-        Err(refusal) => refusal as u32,
+    call().map_or_else(|refusal| refusal as u32, |()| OK)
+}
+
+/// That this holds, or else why not.
+#[inline(always)]
+pub(crate) fn must(holds: bool, or: Refusal) -> Answer {
+    holds.then_some(()).ok_or(or)
+}
+
+impl From<CreateError> for Refusal {
+    #[inline]
+    fn from(error: CreateError) -> Refusal {
+        match error {
+            CreateError::Full => Refusal::Full,
+            CreateError::NoLane => Refusal::Busy,
+            _ => Refusal::Memory,
+        }
     }
+}
+
+macro_rules! refusals {
+    ($($error:ty: $refusal:ident,)*) => {$(
+        impl From<$error> for Refusal {
+            #[inline]
+            fn from(_: $error) -> Refusal {
+                Refusal::$refusal
+            }
+        }
+    )*};
+}
+
+refusals! {
+    MemoryRefused: Memory,
+    TryReserveError: Memory,
+    GetError: References,
+    KeyError: Gone,
+    OpenError: Shape,
 }

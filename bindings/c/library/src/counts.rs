@@ -1,5 +1,5 @@
 //! A lane's references, counted by key: a program tells a reference by its key alone, and may be wrong about it.
-use crate::code::{Answer, Refusal};
+use crate::code::{must, Answer, Refusal};
 use crate::share::row;
 use pardz::Shape;
 use std::array;
@@ -38,21 +38,19 @@ impl Counts {
         let count = (shape.lanes * pages[MOST_PAGES]) as usize;
         let mut places = row(count)?;
         places.resize(count, KeyCount::default());
+        let (tag, all) = (shape.tag, 0);
         Ok(Counts {
-            tag: shape.tag,
+            tag,
             pages,
             places,
-            all: 0,
+            all,
         })
     }
 
     /// That the lane can have one more.
     #[inline]
     pub(crate) fn must_have_room(&self) -> Answer {
-        match self.all < MOST_REFERENCES {
-            true => Ok(()),
-            false => Err(Refusal::References),
-        }
+        must(self.all < MOST_REFERENCES, Refusal::References)
     }
 
     /// The count of a key's place, where the pool has that. (A key has the tag, 8 bits, the generation, 32, the lane, 8, the page, 4, and its

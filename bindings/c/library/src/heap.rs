@@ -23,7 +23,7 @@ struct Heap;
 #[cfg_attr(any(test, pardz_explore), allow(dead_code))]
 static HEAP: Heap = Heap;
 
-/// The most that the program's heap aligns a block to.
+/// The most that the program's heap aligns a block to. Each block is aligned so, as it may have an object of the program's.
 const MOST_ALIGN: usize = 16;
 
 /// As Rust has it: null where it was refused.
@@ -67,7 +67,7 @@ unsafe impl GlobalAlloc for Heap {
             return unsafe { alloc_within(layout) };
         }
         // SAFETY: the program has it, and it asks for nothing.
-        told(unsafe { pardz_alloc(layout.size(), layout.align()) })
+        told(unsafe { pardz_alloc(layout.size(), MOST_ALIGN) })
     }
 
     #[inline]
@@ -89,6 +89,6 @@ unsafe impl GlobalAlloc for Heap {
             return ptr::null_mut();
         }
         // SAFETY: it is a block of this heap, with so many bytes.
-        told(unsafe { pardz_realloc(at.cast(), kept, size, layout.align()) })
+        told(unsafe { pardz_realloc(at.cast(), kept, size, MOST_ALIGN) })
     }
 }

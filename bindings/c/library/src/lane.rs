@@ -1,20 +1,16 @@
 //! What a slot has of a pool: a lane, the places that it fills, and the references that it keeps for its caller.
-use crate::code::{Answer, Refusal};
+use crate::code::{must, Answer, Refusal};
 use crate::counts::Counts;
-use crate::filling::{refused, Filling};
-use crate::reference::{self, cleared, key_of};
+use crate::handles::get;
 use crate::share::{boxed, row, Share};
 use crate::slot::Slot;
+use crate::store::put;
 use crate::sync::{AtomicU32, Ordering};
-use pardz::{Buffer, Census, Pool, Ref, Shape};
+use pardz::{Buffer, Census, Filling, Pool, Ref, Shape};
 use std::mem;
 
 /// The most places that a lane fills at once.
 const MOST_FILLINGS: usize = 16;
-
-/// How many numbers a lane tells, and how many of them without a look at each place.
-pub(crate) const NUMBERS: usize = 16;
-const KNOWN: usize = 9;
 
 /// What the lanes of a pool share.
 pub(crate) struct Opened {
@@ -24,17 +20,6 @@ pub(crate) struct Opened {
     number: u64,
     /// How many pages are open, of all lanes together.
     pages: AtomicU32,
-}
-
-impl Opened {
-    pub(crate) fn of(pool: Pool<Buffer>, shape: Shape, number: u64) -> Opened {
-        Opened {
-            pool,
-            shape,
-            number,
-            pages: AtomicU32::new(0),
-        }
-    }
 }
 
 /// A lane, which shares no line of the cache with another one, nor two that are fetched together. It borrows the pool of its share, which is
@@ -52,16 +37,36 @@ pub(crate) struct Lane {
     opened: Share<Opened>,
 }
 
+/// What a lane tells of its pool and of itself, number after number.
+#[repr(C)]
+pub(crate) struct Stats {
+    pub(crate) shape: Shape,
+    pub(crate) lane: u32,
+    pub(crate) references: u32,
+    pub(crate) fillings: u32,
+    pub(crate) joined: u32,
+    pub(crate) opened: u32,
+    pub(crate) places: Census,
+}
+
+/// How many numbers it tells, and how many of them without a look at each place.
+pub(crate) const NUMBERS: usize = mem::size_of::<Stats>() / 4;
+const KNOWN: usize = 9;
+
 pub(crate) type LaneSlot = Slot<Box<Lane>>;
 
 /// Opens a pool, and answers it and its lanes by rising number, each as `have` has it.
 pub(crate) fn open<L>(
-    shape: &Shape,
+    &shape: &Shape,
     number: u64,
     have: impl Fn(Lane) -> Answer<L>,
 ) -> Answer<(Share<Opened>, Vec<L>)> {
-    let pool = Pool::open(*shape).or(Err(Refusal::Shape))?;
-    let opened = Share::new(Opened::of(pool, *shape, number))?;
+    let opened = Share::new(Opened {
+        pool: Pool::open(shape)?,
+        shape,
+        number,
+        pages: AtomicU32::new(0),
+    })?;
     let mut lanes = row(shape.lanes as usize)?;
     for number in 0..shape.lanes {
         lanes.push(have(Lane::new(opened.clone(), number)?)?);
@@ -71,15 +76,11 @@ pub(crate) fn open<L>(
 
 /// Opens a pool, and puts its lanes into empty slots, by rising number.
 pub(crate) fn open_into(shape: &Shape, number: u64, slots: &mut [LaneSlot]) -> Answer {
-    if slots.len() != shape.lanes as usize {
-        return Err(Refusal::Lanes);
-    }
+    must(slots.len() == shape.lanes as usize, Refusal::Lanes)?;
     slots.iter().try_for_each(Slot::must_be_empty)?;
     let (_, lanes) = open(shape, number, boxed)?;
-    for (slot, lane) in slots.iter_mut().zip(lanes) {
-        slot.fill(lane, 1);
-    }
-    Ok(())
+    let mut filled = slots.iter_mut().zip(lanes);
+    filled.try_for_each(|(slot, lane)| slot.fill(1, || Ok(lane)))
 }
 
 impl Lane {
@@ -87,7 +88,7 @@ impl Lane {
         // SAFETY: the lane, and what comes of it, is dropped before the share.
         let pool = unsafe { &opened.beyond().pool };
         Ok(Lane {
-            lane: pool.lane().map_err(refused)?,
+            lane: pool.lane()?,
             fillings: row(MOST_FILLINGS)?,
             references: Counts::new(&opened.shape)?,
             number,
@@ -97,14 +98,11 @@ impl Lane {
         })
     }
 
-    fn pool(&self) -> &Pool<Buffer> {
-        &self.opened.pool
-    }
-
     /// Begins an empty buffer.
+    #[inline(always)]
     pub(crate) fn begin(&mut self) -> Answer<Filling<'static>> {
-        let filling = Filling::begun(self.lane.create())?;
-        let page = (filling.key() >> 12 & 0xf) as u32;
+        let filling = self.lane.create()?;
+        let page = (u64::from(filling.key()) >> 12 & 0xf) as u32;
         if page >= self.pages {
             self.pages = page + 1;
             self.opened.pages.fetch_add(1, Ordering::Relaxed);
@@ -114,37 +112,32 @@ impl Lane {
 
     /// Begins a filling, and answers the key under which it will be published.
     pub(crate) fn create(&mut self) -> Answer<u64> {
-        if self.fillings.len() == MOST_FILLINGS {
-            return Err(Refusal::Fillings);
-        }
+        must(self.fillings.len() < MOST_FILLINGS, Refusal::Fillings)?;
         let filling = self.begin()?;
-        let key = filling.key();
+        let key = filling.key().into();
         self.fillings.push(filling);
         Ok(key)
     }
 
     /// Where the filling of a key stands.
     fn find(&self, key: u64) -> Answer<usize> {
-        let found = self.fillings.iter().position(|it| it.key() == key);
+        let found = self
+            .fillings
+            .iter()
+            .position(|it| u64::from(it.key()) == key);
         found.ok_or(Refusal::NoFilling)
     }
 
     /// The filling of a key.
-    pub(crate) fn filling(&mut self, key: u64) -> Answer<&mut Filling<'static>> {
+    pub(crate) fn filling(&mut self, key: u64) -> Answer<&mut Buffer> {
         let index = self.find(key)?;
         Ok(&mut self.fillings[index])
     }
 
     /// Takes a filling out.
-    fn take(&mut self, key: u64) -> Answer<pardz::Filling<'static, Buffer>> {
+    pub(crate) fn take(&mut self, key: u64) -> Answer<Filling<'static>> {
         let index = self.find(key)?;
-        Ok(self.fillings.swap_remove(index).buffer)
-    }
-
-    /// Publishes a filling.
-    pub(crate) fn publish(&mut self, key: u64) -> Answer {
-        let _ = self.take(key)?.publish();
-        Ok(())
+        Ok(self.fillings.swap_remove(index))
     }
 
     /// Publishes a filling, and keeps a reference to it.
@@ -157,29 +150,25 @@ impl Lane {
     }
 
     /// Publishes bytes in a place of their own.
+    #[inline(always)]
     pub(crate) fn put(&mut self, bytes: &[u8]) -> Answer<u64> {
-        self.begin()?.put(bytes)
-    }
-
-    /// Gives a filling up, whose place stays filling until the pool is closed.
-    pub(crate) fn leave(&mut self, key: u64) -> Answer {
-        mem::forget(self.take(key)?);
-        Ok(())
+        put(self.begin()?, bytes)
     }
 
     /// Keeps a reference to a key, and answers its bytes, which stand there until it is released.
+    #[inline(always)]
     pub(crate) fn get(&mut self, key: u64) -> Answer<*const [u8]> {
         self.references.must_have_room()?;
-        let bytes: *const [u8] = &reference::get(self.pool(), key)?.leak()[..];
+        let bytes: *const [u8] = &get(&self.opened.pool, key)?.leak()[..];
         self.references.gain(key);
         Ok(bytes)
     }
 
     /// The reference to a key that the lane keeps, of which it was forgotten.
+    #[inline(always)]
     fn reference(&mut self, key: u64) -> Answer<Ref<'_, Buffer>> {
-        let key = key_of(key)?;
         // SAFETY: by its counts the lane has forgotten one that it hasn't given back.
-        Ok(unsafe { self.pool().ref_from_key(key) })
+        Ok(unsafe { self.opened.pool.ref_from_key(key.try_into()?) })
     }
 
     /// The bytes of a key to which the lane keeps a reference.
@@ -189,43 +178,30 @@ impl Lane {
     }
 
     /// Gives a reference back.
+    #[inline(always)]
     pub(crate) fn release(&mut self, key: u64) -> Answer {
         self.references.lose(key)?;
-        drop(self.reference(key)?);
-        Ok(())
+        self.reference(key).map(drop)
     }
 
     /// Clears a key.
+    #[inline(always)]
     pub(crate) fn clear(&mut self, key: u64) -> Answer {
-        cleared(self.lane.clear(key_of(key)?))
+        must(self.lane.clear(key.try_into()?), Refusal::Gone)
     }
 
-    /// The shape of the pool, the lane's number, how many references and fillings it has, and how many lanes were joined to it; how many pages
-    /// of the pool are open, and what its places are now. (If so many are asked for: else those that take a look are 0.)
-    pub(crate) fn numbers(&self, asked: usize) -> [u32; NUMBERS] {
-        let shape = self.opened.shape;
-        let census = match asked > KNOWN {
-            true => self.pool().census(),
-            false => Census::default(),
-        };
-        [
-            shape.lanes,
-            shape.first_page,
-            shape.pages,
-            shape.last_generation,
-            shape.tag,
-            self.number,
-            self.references.all,
-            self.fillings.len() as u32,
-            self.joined,
-            self.opened.pages.load(Ordering::Relaxed),
-            census.free,
-            census.unopened,
-            census.filling,
-            census.present,
-            census.marked,
-            census.retired,
-        ]
+    /// What it tells where so many numbers are asked for: those that take a look at places are 0 unless one of them is.
+    pub(crate) fn stats(&self, asked: usize) -> Stats {
+        let look = (asked > KNOWN).then(|| self.opened.pool.census());
+        Stats {
+            shape: self.opened.shape,
+            lane: self.number,
+            references: self.references.all,
+            fillings: self.fillings.len() as u32,
+            joined: self.joined,
+            opened: self.opened.pages.load(Ordering::Relaxed),
+            places: look.unwrap_or_default(),
+        }
     }
 
     /// The lane ends. Nobody else has its places, what it fills stays so, and so does what it refers to.
@@ -240,12 +216,12 @@ impl Lane {
 pub(crate) fn join(into: &mut LaneSlot, slot: &mut LaneSlot) -> Answer {
     let (first, other) = (into.get_mut()?, slot.get()?);
     let next = first.opened.shape.lanes - 1 - first.joined;
-    if first.number != 0 || other.number == 0 || other.number != next {
-        return Err(Refusal::Lanes);
-    }
-    if other.opened.number != first.opened.number {
-        return Err(Refusal::OtherPool);
-    }
+    let is_next = first.number == 0 && other.number != 0 && other.number == next;
+    must(is_next, Refusal::Lanes)?;
+    must(
+        other.opened.number == first.opened.number,
+        Refusal::OtherPool,
+    )?;
     first.joined += 1;
     slot.take()?.end();
     Ok(())
@@ -254,12 +230,8 @@ pub(crate) fn join(into: &mut LaneSlot, slot: &mut LaneSlot) -> Answer {
 /// Closes a pool whose lane 0 has all others.
 pub(crate) fn close(slot: &mut LaneSlot) -> Answer<Census> {
     let lane = slot.get()?;
-    if lane.joined + 1 != lane.opened.shape.lanes {
-        return Err(Refusal::Lanes);
-    }
-    if !lane.opened.is_last() {
-        return Err(Refusal::Shared);
-    }
+    must(lane.joined + 1 == lane.opened.shape.lanes, Refusal::Lanes)?;
+    must(lane.opened.is_last(), Refusal::Shared)?;
     close_last(slot.take()?.end())
 }
 

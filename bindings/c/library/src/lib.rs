@@ -7,12 +7,12 @@
 #[path = "../../tests/abi.rs"]
 mod abi;
 mod code;
+mod content;
 mod counts;
 mod exports;
-mod filling;
+mod handles;
 mod heap;
 mod lane;
-mod reference;
 mod share;
 mod slot;
 mod store;

@@ -1,6 +1,5 @@
 //! The two words that a program keeps of a lane, a pool or an owned reference: `pardz_lane`, `pardz_pool`, `pardz_owned`.
-use crate::code::{Answer, Refusal};
-use std::ops::{Deref, DerefMut};
+use crate::code::{must, Answer, Refusal};
 
 /// Empty, or with a pointer of this kind, which is then not null. It is moved by plain copies.
 #[repr(C)]
@@ -10,30 +9,29 @@ pub(crate) struct Slot<P> {
     pub(crate) full: u64,
 }
 
-impl<P: Deref> Slot<P> {
+impl<P> Slot<P> {
     /// What it has.
     #[inline]
     pub(crate) fn get(&self) -> Answer<&P> {
         self.at.as_ref().ok_or(Refusal::EmptyLane)
     }
 
+    /// The same, for a call that has it alone.
+    #[inline]
+    pub(crate) fn get_mut(&mut self) -> Answer<&mut P> {
+        self.at.as_mut().ok_or(Refusal::EmptyLane)
+    }
+
     /// That it has nothing.
     pub(crate) fn must_be_empty(&self) -> Answer {
-        match self.at {
-            Some(_) => Err(Refusal::FullLane),
-            None => Ok(()),
-        }
+        must(self.at.is_none(), Refusal::FullLane)
     }
 
-    /// Fills it, which is empty. `full` isn't 0.
-    pub(crate) fn fill(&mut self, at: P, full: u64) {
-        *self = Slot { at: Some(at), full };
-    }
-
-    /// Fills it, if it is empty, with what this answers.
-    pub(crate) fn fill_by(&mut self, full: u64, make: impl FnOnce() -> Answer<P>) -> Answer {
+    /// Fills it, if it is empty, with what this answers. `full` isn't 0.
+    pub(crate) fn fill(&mut self, full: u64, make: impl FnOnce() -> Answer<P>) -> Answer {
         self.must_be_empty()?;
-        self.fill(make()?, full);
+        let at = Some(make()?);
+        *self = Slot { at, full };
         Ok(())
     }
 
@@ -44,20 +42,10 @@ impl<P: Deref> Slot<P> {
     }
 }
 
-impl<P: DerefMut> Slot<P> {
-    /// What it has, for a call that has it alone.
-    #[inline]
-    pub(crate) fn get_mut(&mut self) -> Answer<&mut P::Target> {
-        self.at.as_deref_mut().ok_or(Refusal::EmptyLane)
-    }
-}
-
-impl<P: Deref + Clone> Slot<P> {
+impl<P: Clone> Slot<P> {
     /// Another slot, which is empty, has the same.
     pub(crate) fn share(&self, other: &mut Slot<P>) -> Answer {
         let at = self.get()?;
-        other.must_be_empty()?;
-        other.fill(at.clone(), self.full);
-        Ok(())
+        other.fill(self.full, || Ok(at.clone()))
     }
 }

@@ -1,18 +1,21 @@
-//! A pool whose lanes lie in seats, from which one call at a time has each: so any number of threads call it.
-use crate::code::{Answer, Refusal};
-use crate::filling::Filling;
+//! Pools that any thread calls. One of a shape has lanes, which lie in seats, and from a seat one call at a time has the lane: so any number of
+//! threads call it.
+use crate::code::{must, Answer, Refusal};
+use crate::content::{Kind, Object};
+use crate::handles::PoolFilling;
 use crate::lane::{self, Lane, Opened};
-use crate::share::Share;
+use crate::share::{boxed, Share};
 use crate::slot::Slot;
 use crate::sync::{self, AtomicBool, Ordering};
-use pardz::{Buffer, Census, Limits, Pool, Shape};
+use pardz::{Buffer, Census, Clear, Filling, Limits, Pool, Shape};
 use std::cell::UnsafeCell;
+use std::iter;
 
 /// What the explorer calls it.
 const LANE: &str = "a lane in its seat";
 
 /// Where a lane lies.
-struct Seat {
+pub(crate) struct Seat {
     is_had: AtomicBool,
     lane: UnsafeCell<Lane>,
 }
@@ -21,11 +24,9 @@ struct Seat {
 unsafe impl Sync for Seat where Lane: Send {}
 
 impl Seat {
-    fn new(lane: Lane) -> Seat {
-        Seat {
-            is_had: AtomicBool::new(false),
-            lane: UnsafeCell::new(lane),
-        }
+    fn new(lane: Lane) -> Answer<Seat> {
+        let (is_had, lane) = (AtomicBool::new(false), UnsafeCell::new(lane));
+        Ok(Seat { is_had, lane })
     }
 
     fn is_had(&self) -> bool {
@@ -36,21 +37,6 @@ impl Seat {
     #[inline]
     fn begins(&self) -> bool {
         !self.is_had() && !self.is_had.swap(true, Ordering::Acquire)
-    }
-
-    /// Calls by the lane, and leaves it.
-    ///
-    /// # Safety
-    ///
-    /// `begins` said so to this call.
-    #[inline]
-    unsafe fn call<V>(&self, call: impl FnOnce(&mut Lane) -> V) -> V {
-        sync::writes(self.lane.get(), LANE);
-        // SAFETY: the call has the lane alone.
-        let answer = call(unsafe { &mut *self.lane.get() });
-        sync::writes(self.lane.get(), LANE);
-        self.is_had.store(false, Ordering::Release);
-        answer
     }
 }
 
@@ -64,36 +50,73 @@ pub(crate) struct PoolLimits {
     pub(crate) last_generation: u32,
 }
 
-/// A pool and its lanes, if it has some.
-pub(crate) struct Store {
-    seats: Vec<Seat>,
-    opened: Share<Opened>,
+impl PoolLimits {
+    fn open<T: Clear>(&self) -> Answer<Pool<T>> {
+        let limits = Limits::new()
+            .places(usize::try_from(self.places).unwrap_or(usize::MAX))
+            .shards(self.threads as usize)
+            .first_tag(self.first_tag)
+            .tags(self.tags)
+            .last_generation(self.last_generation);
+        Ok(limits.open()?)
+    }
+}
+
+/// A pool, by what it has. (With a tag of its own, at which a call looks in one step.)
+#[repr(u8)]
+pub(crate) enum Store {
+    Buffers(Pool<Buffer>),
+    Seated(Vec<Seat>, Share<Opened>),
+    Objects(Box<(Pool<Object>, Share<Kind>)>),
 }
 
 impl Store {
     /// Opens a pool of this shape.
-    pub(crate) fn open(shape: &Shape) -> Answer<Share<Store>> {
+    pub(crate) fn attach(shape: &Shape) -> Answer<Share<Store>> {
         // (No lane of it is joined to one of another pool, so its number tells nothing.)
-        let (opened, seats) = lane::open(shape, 0, |lane| Ok(Seat::new(lane)))?;
-        Share::new(Store { seats, opened })
+        let (opened, seats) = lane::open(shape, 0, Seat::new)?;
+        Share::new(Store::Seated(seats, opened))
     }
 
-    /// Opens one that grows, and has no lanes.
-    pub(crate) fn growing(limits: &PoolLimits) -> Answer<Share<Store>> {
-        let limits = Limits::new()
-            .places(usize::try_from(limits.places).unwrap_or(usize::MAX))
-            .shards(limits.threads as usize)
-            .first_tag(limits.first_tag)
-            .tags(limits.tags)
-            .last_generation(limits.last_generation);
-        let pool = limits.open().or(Err(Refusal::Shape))?;
-        let opened = Share::new(Opened::of(pool, Shape::default(), 0))?;
-        let seats = Vec::new();
-        Share::new(Store { seats, opened })
+    /// Opens one that grows.
+    pub(crate) fn grow(limits: &PoolLimits) -> Answer<Share<Store>> {
+        Share::new(Store::Buffers(limits.open()?))
     }
 
-    pub(crate) fn pool(&self) -> &Pool<Buffer> {
-        &self.opened.pool
+    /// Opens one that grows, of this kind of objects.
+    pub(crate) fn grow_of(limits: &PoolLimits, kind: &Kind) -> Answer<Share<Store>> {
+        Share::new(Store::Objects(boxed((limits.open()?, Share::new(*kind)?))?))
+    }
+
+    /// Begins an empty object: in a place of the thread's own, or of a lane that no call has.
+    pub(crate) fn create(&self) -> Answer<PoolFilling> {
+        Ok(match self {
+            Store::Buffers(pool) => PoolFilling::hand(pool.create()?),
+            Store::Seated(..) => PoolFilling::hand(self.by_any(0, Lane::begin)?),
+            Store::Objects(objects) => PoolFilling::hand(begin(objects)?),
+        })
+    }
+
+    /// Publishes bytes in such a place.
+    pub(crate) fn put(&self, bytes: &[u8]) -> Answer<u64> {
+        match self {
+            Store::Buffers(pool) => Ok(pool.put(bytes)?.into()),
+            Store::Seated(..) => put(self.by_any(0, Lane::begin)?, bytes),
+            Store::Objects(objects) => {
+                let size = objects.1.size;
+                must(size == 0 || size == bytes.len(), Refusal::Room)?;
+                let mut filling = begin(objects)?;
+                filling.set(bytes)?;
+                Ok(filling.publish().into())
+            }
+        }
+    }
+
+    fn seats(&self) -> &[Seat] {
+        match self {
+            Store::Seated(seats, _) => seats,
+            _ => &[],
+        }
     }
 
     /// Calls by the first lane that no call has, from this number on and then from the first.
@@ -103,39 +126,58 @@ impl Store {
         from: u32,
         call: impl FnOnce(&mut Lane) -> Answer<V>,
     ) -> Answer<V> {
-        let from = (from as usize).checked_rem(self.seats.len());
-        let (before, behind) = self.seats.split_at(from.ok_or(Refusal::EmptyLane)?);
-        let mut seats = behind.iter().chain(before);
-        let seat = seats.find(|seat| seat.begins()).ok_or(Refusal::Busy)?;
-        // SAFETY: it said so.
-        unsafe { seat.call(call) }
+        let from = (from as usize).checked_rem(self.seats().len());
+        let (before, behind) = self.seats().split_at(from.ok_or(Refusal::EmptyLane)?);
+        by_first(behind.iter().chain(before), call)
     }
 
     /// Gives a reference back, by the lane that keeps it.
     pub(crate) fn release(&self, lane: u32, key: u64) -> Answer {
-        let seat = self.seats.get(lane as usize);
+        let seat = self.seats().get(lane as usize);
         let seat = seat.ok_or(Refusal::NoReference)?;
-        if !seat.begins() {
-            return Err(Refusal::Busy);
-        }
-        // SAFETY: it said so.
-        unsafe { seat.call(|lane| lane.release(key)) }
-    }
-
-    /// Begins an empty buffer: in a place of the thread's own, or of a lane that no call has.
-    pub(crate) fn begin(&self) -> Answer<Filling<'_>> {
-        match self.seats.is_empty() {
-            true => Filling::begun(self.pool().create()),
-            false => self.by_any(0, Lane::begin),
-        }
+        by_first(iter::once(seat), |lane| lane.release(key))
     }
 
     fn close(self) -> Answer<Census> {
-        for seat in self.seats {
-            seat.lane.into_inner().end();
+        match self {
+            Store::Buffers(pool) => Ok(pool.close()),
+            Store::Objects(objects) => Ok(objects.0.close()),
+            Store::Seated(seats, opened) => {
+                for seat in seats {
+                    seat.lane.into_inner().end();
+                }
+                lane::close_last(opened)
+            }
         }
-        lane::close_last(self.opened)
     }
+}
+
+/// Calls by the first of these lanes that no call has, and leaves it.
+#[inline]
+fn by_first<'s, V>(
+    mut seats: impl Iterator<Item = &'s Seat>,
+    call: impl FnOnce(&mut Lane) -> Answer<V>,
+) -> Answer<V> {
+    let seat = seats.find(|seat| seat.begins()).ok_or(Refusal::Busy)?;
+    sync::writes(seat.lane.get(), LANE);
+    // SAFETY: `begins` said that this call has the lane alone.
+    let answer = call(unsafe { &mut *seat.lane.get() });
+    sync::writes(seat.lane.get(), LANE);
+    seat.is_had.store(false, Ordering::Release);
+    answer
+}
+
+/// Begins an object of a kind.
+fn begin((pool, kind): &(Pool<Object>, Share<Kind>)) -> Answer<Filling<'_, Object>> {
+    let mut filling = pool.create_with(|| Object::new(kind))?;
+    filling.begin()?;
+    Ok(filling)
+}
+
+/// Publishes a filling with these bytes. Where memory for them is refused, its place is free again.
+pub(crate) fn put(mut filling: Filling, bytes: &[u8]) -> Answer<u64> {
+    filling.append(bytes)?;
+    Ok(filling.publish().into())
 }
 
 /// The slot of a pool.
@@ -144,12 +186,7 @@ pub(crate) type PoolSlot = Slot<Share<Store>>;
 /// Closes the pool of a slot, where no other slot has it, and no call a lane.
 pub(crate) fn detach(slot: &mut PoolSlot) -> Answer<Census> {
     let store = slot.get()?;
-    if !store.is_last() {
-        return Err(Refusal::Shared);
-    }
-    if store.seats.iter().any(Seat::is_had) {
-        return Err(Refusal::Busy);
-    }
-    let store = slot.take()?.into_inner().ok_or(Refusal::Shared)?;
-    store.close()
+    must(store.is_last(), Refusal::Shared)?;
+    must(!store.seats().iter().any(Seat::is_had), Refusal::Busy)?;
+    slot.take()?.into_inner().ok_or(Refusal::Shared)?.close()
 }
