@@ -10,10 +10,14 @@ usage: python3 tools/check.py
 - versions: the programs, the crate, the release and the pages say one version
 - names: the edits of WRONG_BODIES are those of the crates; the files that pages name are there; what PROVED names stands in a source; each
   crate has a README, which names all files of its src, and so have the notes of bindings/rust
+- maps: each file of "To change" is there and has the items that are named in it; what is to be looked for by grep is found
+- glossary: each bold word is in a source
 - lines: no row of a table is longer than 400 characters, and no line of a contract or a definition wider than 140 columns
-- DEFINITIONS is what definitions.py writes, and the picture of the crates what crates_picture.py does
+- DEFINITIONS is what definitions.py writes, the picture of the crates what crates_picture.py does, and the tables and charts of measured figures
+  what tools/bench/table makes of docs/benchmark.json
 - what tools/begin makes is the sample under another name
 """
+import functools
 import pathlib
 import re
 import shutil
@@ -25,35 +29,35 @@ sys.dont_write_bytecode = True
 import crates_picture
 import definitions
 
+sys.path.append(str(pathlib.Path(__file__).resolve().parent / "bench"))
+import figures as measured
+
 ROOT = pathlib.Path(__file__).resolve().parent.parent
 PAGES = sorted((ROOT / "docs").glob("*.md"))
 TOP = [ROOT / name for name in ("README.md", "CHANGELOG.md", "CONTRIBUTING.md", "SECURITY.md") if (ROOT / name).is_file()]
 OTHERS = sorted((ROOT / "bindings").glob("**/README.md")) + sorted((ROOT / "tools").glob("**/README.md")) + [ROOT / "bindings/rust/CHANGELOG.md", ROOT / "bindings/rust/CONTRIBUTING.md"]
 NOTES = [ROOT / "crates" / crate / "README.md" for crate in definitions.crates()]
 WITH_SNIPPETS = ("README.md", "docs/USING.md", "docs/C.md")
+# The other pages with maps of what a change touches, and where the map begins if not at "To change".
+MAPPED = ("bindings/rust/CONTRIBUTING.md", "bindings/explore/README.md", "bindings/c/README.md", "docs/ARCHITECTURE.md")
+MAPS = {"docs/ARCHITECTURE.md": "^### What every change touches$"}
 LONGEST_ROW = 400
 WIDEST_CLAUSE = 140
 
 # A figure, and where it stands: in each page by a pattern, whose groups are all the same. The first place is the one to change first.
 CRATES = len(definitions.crates())
+MEASURED = measured.Figures(measured.read())
 EDITS = [path for crate in definitions.crates() for path in ROOT.glob(f"crates/{crate}/must-fail/*.edit")]
 FIGURES = [
     ("edits", str(len(EDITS)), [("docs/GATE.md", r"(\d+) edits refused")]),
     ("crates", str(CRATES), [("README.md", r"all (\d+) crates"), ("docs/ARCHITECTURE.md", r"^The (\d+) crates")]),
     ("the kit", None, [("docs/PROVED.md", r"`(rattle-kit-\w+) logic"), ("README.md", r"(rattle-kit-\w+)"), ("docs/USING.md", r"(rattle-kit-\w+)"), ("CONTRIBUTING.md", r"(rattle-kit-\w+)")]),
-    ("get, 16 lanes, ns", None, [("docs/BENCHMARK.md", r"^\| get-many \| \d+ \| (\d+ \| \d+ \| \d+ \| \d+) \|$"), ("README.md", r"^\| get, read, release \| (\d+ \| \d+ \| \d+ \| \d+) \|$")]),
-    ("get on four threads, ns", None, [("docs/BENCHMARK.md", r"^\| get-many, 4 threads \| \d+ \| (\d+ \| \d+ \| \d+) \|"), ("README.md", r"^\| the same on 4 threads, each with its own keys \| (\d+ \| \d+ \| \d+) \| \|")]),
-    ("one key on four threads, ns", None, [("docs/BENCHMARK.md", r"^\| get-shared, 4 threads \| (\d+) \|"), ("README.md", r"^\| the same on 4 threads, all with one key \| (\d+) \|")]),
-    ("cycle, ns", None, [("docs/BENCHMARK.md", r"^\| cycle \| \d+ \| (\d+ \| \d+ \| \d+ \| \d+) \|"), ("README.md", r"^\| create, fill, publish, clear \| (\d+ \| \d+ \| \d+ \| \d+) \|")]),
-    ("cycle on four threads, ns", None, [("docs/BENCHMARK.md", r"^\| cycle, 4 threads \| \d+ \| ([\d,]+ \| [\d,]+ \| [\d,]+ \| [\d,]+) \|"), ("README.md", r"^\| the same on 4 threads \| (\d+ \| \d+ \| [\d,]+ \| \d+) \|")]),
-    ("the crate's get, ns", None, [("docs/BENCHMARK.md", r"^\| a get with its drop \| (\d+ \| \d+) \|"), ("README.md", r"^\| get, read, drop \| (\d+ \| \d+) \|")]),
-    ("the crate's owned get, ns", None, [("docs/BENCHMARK.md", r"^\| `get_owned` with its drop \| (\d+ \| \d+) \|"), ("README.md", r"^\| the same by `get_owned` \| (\d+ \| \d+) \|")]),
-    ("the crate's cycle, ns", None, [("docs/BENCHMARK.md", r"^\| a cycle \| (\d+ \| \d+) \|"), ("README.md", r"^\| create, fill, publish, clear \| (\d+ \| \d+) \|$")]),
-    ("the crate's owned cycle, ns", None, [("docs/BENCHMARK.md", r"^\| `create_owned`, publish, clear \| (\d+ \| \d+) \|"), ("README.md", r"^\| the same by `create_owned` \| (\d+ \| \d+) \|")]),
-    ("an opened pool, ns", None, [("docs/BENCHMARK.md", r"^\| a pool opened and dropped \| ([\d,]+ \| [\d,]+) \|"), ("README.md", r"^\| a pool opened and dropped, never used \| ([\d,]+ \| [\d,]+) \|")]),
-    ("a native get, instructions", None, [("docs/BENCHMARK.md", r"^\| get-many \| (\d+ \| \d+) \| \d+ \| \d+ \|$"), ("docs/C.md", r"^\| get-many \| \d+ \| (\d+ \| \d+) \|")]),
-    ("a native cycle, instructions", None, [("docs/BENCHMARK.md", r"^\| cycle \| (\d+ \| \d+) \| \d+ \| \d+ \|$"), ("docs/C.md", r"^\| cycle: a put and a clear \| \d+ \| (\d+ \| \d+) \|")]),
-    ("a full pool, instructions", None, [("docs/BENCHMARK.md", r"^\| full16 \| (\d+) \|"), ("docs/BENCHMARK.md", r"after (\d+) instructions")]),
+    ("bytes of a place of the proved pool", None, [("docs/BENCHMARK.md", r"(\d+) bytes for each place"), ("README.md", r"proved pool takes (\d+) bytes for each place"), ("README.md", r"a place takes (\d+) \+")]),
+    ("bytes of a crate's object in a million", f"{MEASURED.bytes_of('crate', 1_000_000):.0f}", [("README.md", r"(\d+) bytes for each of a million")]),
+    ("kilobytes of a crate's pool with one object", f"{MEASURED.bytes_of('crate', 1) / 1000:.0f}", [("README.md", r"takes (\d+) KB for a pool with one")]),
+    ("steps of a get", None, [("bindings/explore/scenarios/steps.rs", r'\("get", (\d+), '), ("bindings/explore/README.md", r"a get makes (\d+)")]),
+    ("steps of a release", None, [("bindings/explore/scenarios/steps.rs", r'\("release", (\d+), '), ("bindings/explore/README.md", r"a get makes \d+, a release (\d+)")]),
+    ("steps of a clear", None, [("bindings/explore/scenarios/steps.rs", r'\("clear", (\d+), '), ("bindings/explore/README.md", r"a release \d+ and a clear (\d+)")]),
     ("the gate, processor minutes", None, [("docs/GATE.md", r"some (\d+) processor minutes"), ("CONTRIBUTING.md", r"some (\d+) processor minutes"), ("README.md", r"some (\d+) processor minutes")]),
     ("exports", str(sum(it.read_text(encoding="utf-8").count("#[unsafe(no_mangle)]") for it in (ROOT / "crates/poolffi/src").glob("*.rt"))), [("docs/PROVED.md", r"all (\d+) exports"), ("docs/C.md", r"declares (\d+) functions")]),
 ]
@@ -78,7 +82,7 @@ VERSIONS = [
 HOMES = {
     r"edits\b": ("docs/GATE.md",),
     r"processor minutes\b": ("docs/GATE.md",),
-    r"(?:instructions\b|ns\b|µs\b)": ("docs/BENCHMARK.md", "docs/SPEED.md", "docs/C.md"),
+    r"(?:instructions\b|ns\b|µs\b)": ("docs/BENCHMARK.md", "docs/SPEED.md", "docs/C.md", "docs/TESTED.md"),
 }
 # What DECISIONS alone tells: what a choice saved when it was made.
 PAST = {"421", "237"}
@@ -198,7 +202,7 @@ def wrong_bodies():
     for line in text_of(ROOT / "docs/WRONG_BODIES.md").splitlines():
         if line.startswith("## "):
             crate = line[3:]
-        row = re.match(r"- `(\w+)`, ", line)
+        row = re.match(r"\| `(\w+)` \| ", line)
         if row and crate and (ROOT / "crates" / crate).is_dir():
             listed.add((crate, row.group(1)))
     there = {(path.parent.parent.name, path.stem) for path in EDITS}
@@ -243,6 +247,63 @@ def notes():
     yield from (f"{named(page)}: {name} isn't there" for name in sorted(told) if not (page.parent / name).is_file())
 
 
+def text_at(path):
+    """The text of a file, or of all files of a folder. Pages leave out the ending of a file of definitions or proofs."""
+    if path.is_dir():
+        return "\n".join(text_of(it) for it in sorted(path.rglob("*")) if it.is_file() and "out" not in it.parts)
+    return text_of(path if path.exists() else path.with_name(path.name + ".antt"))
+
+
+def in_map(page, path):
+    """Where a path of a map leads: from the page's folder, from `crates`, or from the top."""
+    return next((it for it in (page.parent / path, ROOT / "crates" / path, ROOT / path, page.parent / "src" / path) if is_there(it)), None)
+
+
+def entries(page):
+    """The entries of a page's maps, which begin in bold at the start of a line, each with what is under it."""
+    text = text_of(page)
+    begin = re.search(MAPS.get(named(page), "^## To change$"), text, re.M)
+    if begin:
+        part = re.split(r"^## ", text[begin.end():], maxsplit=1, flags=re.M)[0]
+        for entry in re.split(r"^(?=(?:- )?\*\*)", part, flags=re.M)[1:]:
+            yield re.sub(r"\n\n(?![-*]).*", "", entry, flags=re.S)
+
+
+@functools.cache
+def all_texts():
+    """The sources that a pattern of a map is looked for in, by path."""
+    folders = ("crates", "bindings", "tools")
+    paths = [path for folder in folders for path in (ROOT / folder).rglob("*") if path.suffix not in (".md", ".json") and not {"out", "target"} & set(path.parts)]
+    return {path: path.read_text(encoding="utf-8", errors="replace") for path in paths if path.is_file()}
+
+
+def maps():
+    """Of the maps of what a change touches: files that aren't there, items that their file hasn't, patterns that no source has, and entries without any."""
+    for page in NOTES + [ROOT / name for name in MAPPED]:
+        for entry in entries(page):
+            about = f"{named(page)}: {entry.split(chr(10))[0][:60]}"
+            for path in re.findall(r"`((?:[\w.-]+/)+[\w.-]+)`", entry):
+                if in_map(page, path) is None:
+                    yield f"{about}: {path} isn't there"
+            found = 0
+            for items, path in re.findall(r"(`[^`\n]+`(?:(?:, | and )`[^`\n]+`)*) in `([\w./-]+)`", entry):
+                there = in_map(page, path)
+                if there is None:
+                    yield f"{about}: {path} isn't there"
+                    continue
+                text = text_at(there)
+                for item in re.findall(r"`([^`]+)`", items):
+                    found += 1
+                    if not in_map(page, item) and not re.search(rf"(?<!\w){re.escape(item)}(?!\w)", text):
+                        yield f"{about}: {path} has no {item}"
+            for pattern in re.findall(r"\bgrep `([^`]+)`", entry):
+                found += 1
+                if not any(pattern in text for text in all_texts().values()):
+                    yield f"{about}: no source has {pattern}"
+            if not found and "](" not in entry and page.name != "ARCHITECTURE.md":
+                yield f"{about}: names no item of a file"
+
+
 def words_of_sources():
     """All words of the sources, of the definitions and of the header for C."""
     found = set()
@@ -250,6 +311,17 @@ def words_of_sources():
         for path in ROOT.glob(pattern):
             found |= set(re.findall(r"\w+", text_of(path)))
     return found
+
+
+def glossary():
+    """Bold words of the glossary that no source has."""
+    page = ROOT / "docs/GLOSSARY.md"
+    text = " ".join(re.findall(r"[a-z']+", "\n".join(it for path, it in all_texts().items() if "proofs" not in path.parts).lower()))
+    words = set(text.split())
+    for bold in re.findall(r"\*\*([^*]+)\*\*", text_of(page)):
+        for word in bold.lower().split(", "):
+            if word not in text if " " in word else not {word, word + "s", word + "es"} & words:
+                yield f"{named(page)}: {word}"
 
 
 def names():
@@ -292,6 +364,7 @@ def made():
         yield "docs/DEFINITIONS.md isn't what tools/definitions.py writes: run it"
     if text_of(crates_picture.PICTURE) != crates_picture.picture():
         yield "docs/crates.svg isn't what tools/crates_picture.py writes: run it"
+    yield from measured.stale()
 
 
 def files_of(folder):
@@ -322,7 +395,7 @@ def begun():
 
 def main():
     bad = 0
-    tests = (("links", links), ("snippets", snippets), ("figures", figures), ("figures at home", strays), ("versions", versions), ("the edits' rows", wrong_bodies), ("names of files", paths), ("the crates' READMEs", notes), ("names of definitions", names), ("rows of tables", long_rows), ("lines of contracts", wide_clauses), ("pages that scripts write", made), ("the crate that tools/begin makes", begun))
+    tests = (("links", links), ("snippets", snippets), ("figures", figures), ("figures at home", strays), ("versions", versions), ("the edits' rows", wrong_bodies), ("names of files", paths), ("the crates' READMEs", notes), ("the maps", maps), ("names of definitions", names), ("the glossary's words", glossary), ("rows of tables", long_rows), ("lines of contracts", wide_clauses), ("pages that scripts write", made), ("the crate that tools/begin makes", begun))
     for name, test in tests:
         faults = list(test())
         bad += bool(faults)

@@ -5,7 +5,7 @@ Usage: python3 tools/bench/interleaved.py REPEATS THREADS PROGRAM:CASE:ROUNDS..
 Of each case it prints the processor time of a round on one thread, and the wall time of a round over all threads, in
 nanoseconds: the lower quartile and the median of the runs, less those of runs of one round; and the memory of a run of all
 rounds at its peak, in KiB. The runs of all cases are made in turns, so that a slow hour of the machine falls on all of them
-alike. Where it may, a run has a real-time priority.
+alike. Where it may, a run of at most as many threads as there are processors has a real-time priority.
 """
 
 import os
@@ -36,7 +36,7 @@ class Case:
         begin = time.perf_counter()
         child = os.fork()
         if child == 0:
-            start(words)
+            start(words, threads <= os.cpu_count())
         _, status, usage = os.wait4(child, 0)
         wall = time.perf_counter() - begin
         if status != 0:
@@ -56,10 +56,11 @@ class Case:
         return f"{os.path.basename(self.program):12} {self.name:20} {threads:7}{numbers}{memory:12.0f}"
 
 
-def start(words):
-    """Becomes the program, with its output thrown away."""
+def start(words, first):
+    """Becomes the program, with its output thrown away; `first` of all that run, if it may."""
     try:
-        os.sched_setscheduler(0, os.SCHED_FIFO, os.sched_param(PRIORITY))
+        if first:
+            os.sched_setscheduler(0, os.SCHED_FIFO, os.sched_param(PRIORITY))
     except PermissionError:
         pass
     os.dup2(os.open(os.devnull, os.O_WRONLY), 1)

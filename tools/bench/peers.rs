@@ -31,17 +31,22 @@
 //! - `held`: a buffer is put, and taken away while it is read;
 //! - `churn`, `churn-1000`, `churn-20000`, `churn-3000000`: 24 buffers are live, or so many: the oldest is taken away, and a new one put;
 //! - `at-once-1000`: a thousand buffers are put, read, and taken away;
-//! - `idle-get`, `idle-cycle`: `get-many` and `cycle` while twelve threads that called once wait.
+//! - `idle-get`, `idle-cycle`: `get-many` and `cycle` while twelve threads that called once wait;
+//! - `tails-get`, `tails-cycle`: the same with each call timed, of which p50, p99 and p99.9 are printed in nanoseconds; `tails-nothing`: two
+//!   looks at the clock, which are in each of the two.
 //!
 //! Those of stores with keys (`slab`, `slabowned`, `pardz`, `owned`, `dropin`, `dropinowned`, `map`, `row`):
 //!
 //! - `miss`, `get-miss`: a buffer that was taken away is taken away again, or read;
 //! - `pass`: a buffer is put by one thread and taken away by another, for an even number of threads;
 //! - `free-16`, `free-100`, `free-1000`: so many buffers are put by one thread, and then all taken away by another, likewise;
-//! - `get-of-2`, `get-of-8`, `cycle-of-2`, `cycle-of-8`: a buffer of 2 or 8 stores in turn is read, or put and taken away;
+//! - `get-of-2`, `get-of-8`, `get-of-40`, `cycle-of-2`, `cycle-of-8`, `cycle-of-40`: a buffer of 2, 8 or 40 stores in turn is read, or put
+//!   and taken away;
 //! - `random-100000`: a fresh store is given a hundred thousand buffers, which are taken away in a random order, and dropped;
+//! - `after-100000`: a store that has had a hundred thousand buffers is given a thousand, which are taken away in a random order;
 //! - `open`, `hundred`, `page`, `million`: a fresh store is given no buffer, or 100, 1,985 or a million, and dropped; `million-kept`: it
-//!   isn't dropped.
+//!   isn't dropped;
+//! - `heap`: by how many bytes the heap grows for a fresh store with as many buffers as there are rounds (glibc; the queue's too).
 //!
 //! A case is timed from outside. In one process:
 //!
@@ -54,9 +59,11 @@ use std::hint::black_box;
 use std::process::ExitCode;
 use std::time::Instant;
 
+mod heap;
 mod pardz;
 mod rounds;
 mod stores;
+mod tails;
 
 /// The `Pool` of the real sharded-slab.
 #[cfg(sharded_slab)]
@@ -95,6 +102,9 @@ fn do_rounds<S: Store + Sync>(store: &S, name: &str, plan: Plan) -> Option<u64> 
         "churn-20000" => Some(rounds::churn_of(store, plan, 20_000)),
         "churn-3000000" => Some(rounds::churn_of(store, plan, 3_000_000)),
         "at-once-1000" => Some(rounds::at_once(store, plan)),
+        "tails-get" => Some(tails::gets(store, plan)),
+        "tails-cycle" => Some(tails::cycles(store, plan)),
+        "tails-nothing" => Some(tails::nothing(store, plan)),
         "idle-get" => Some(rounds::beside_idle(store, |store| {
             rounds::get_many(store, plan)
         })),
@@ -117,14 +127,18 @@ fn do_keyed<S: Keyed + Sync + Default>(name: &str, plan: Plan) -> Option<u64> {
         "get-miss" => Some(rounds::get_miss(&S::default(), plan)),
         "get-of-2" => Some(rounds::get_of_several::<S, 2>(plan)),
         "get-of-8" => Some(rounds::get_of_several::<S, 8>(plan)),
+        "get-of-40" => Some(rounds::get_of_several::<S, 40>(plan)),
         "cycle-of-2" => Some(rounds::cycle_of_several::<S, 2>(plan)),
         "cycle-of-8" => Some(rounds::cycle_of_several::<S, 8>(plan)),
+        "cycle-of-40" => Some(rounds::cycle_of_several::<S, 40>(plan)),
         "random-100000" => Some(rounds::random::<S>(plan)),
+        "after-100000" => Some(rounds::after_many(&S::default(), plan)),
         "open" => Some(rounds::page::<S>(plan, 0, true)),
         "hundred" => Some(rounds::page::<S>(plan, 100, true)),
         "page" => Some(rounds::page::<S>(plan, PAGE_ROUND, true)),
         "million" => Some(rounds::page::<S>(plan, 1_000_000, true)),
         "million-kept" => Some(rounds::page::<S>(plan, 1_000_000, false)),
+        "heap" => Some(heap::bytes_of::<S>(plan.rounds)),
         _ => do_rounds(&S::default(), name, plan),
     }
 }
@@ -169,6 +183,7 @@ fn do_case(case: &str, plan: Plan) -> Option<u64> {
         "lane" => self::pardz::do_by_lanes(name, plan),
         "map" => do_keyed::<Map>(name, plan),
         "row" => do_keyed::<Row>(name, plan),
+        "queue" if name == "heap" => Some(heap::bytes_of::<Queue>(plan.rounds)),
         "queue" => do_rounds(&Queue::default(), name, plan),
         "stack" => do_rounds(&Stack::default(), name, plan),
         "local" => do_rounds(&Local, name, plan),

@@ -409,10 +409,25 @@ pub fn random<S: Keyed + Sync + Default>(plan: Plan) -> u64 {
     })
 }
 
-/// What one thread does of it with one store.
+/// Each thread gives a store a hundred thousand buffers and takes them away in a random order, and then again and again a thousand.
+pub fn after_many<S: Keyed + Sync>(store: &S, plan: Plan) -> u64 {
+    on_threads(plan.threads, |_| {
+        let many = in_random_order(store);
+        let few = (0..plan.rounds).map(|_| some_in_random_order(store, AT_ONCE));
+        many + few.sum::<u64>()
+    })
+}
+
+/// What one thread does of a hundred thousand with one store.
 #[inline]
 pub fn in_random_order<S: Store<Handle: Copy>>(store: &S) -> u64 {
-    let mut keys: Vec<_> = (0..RANDOM).map(|_| store.put()).collect();
+    some_in_random_order(store, RANDOM)
+}
+
+/// So many buffers are put, and taken away in a random order.
+#[inline]
+fn some_in_random_order<S: Store<Handle: Copy>>(store: &S, count: usize) -> u64 {
+    let mut keys: Vec<_> = (0..count).map(|_| store.put()).collect();
     shuffle(&mut keys);
     keys.into_iter().filter(|key| store.take(*key)).count() as u64
 }
