@@ -43,12 +43,12 @@ USED = {
     "poolsteps/at_once": "Grid::sweep Grid::sweep_as Grid::strike Grid::strike_as",
     "seatcalls/lib": "Ended Guest GuestRef",
     "seatcalls/at": "owed_by",
-    "seatcalls/ended": "Ended end",
+    "seatcalls/ended": "Ended Parted end",
     "seatcalls/guests": "Guest",
     "seatcalls/references": "GuestRef",
-    "seatcalls/guest_get": "Guest::get_or_keep",
-    "seatcalls/guest_clear": "Guest::clear_or_keep clear_by_steps unreferred",
-    "seatcalls/guest_release": "GuestRef::release_or_keep",
+    "seatcalls/guest_get": "Guest::get_or_keep Guest::enter",
+    "seatcalls/guest_clear": "Guest::clear_or_keep Guest::clear_at_once clear_by_steps unreferred",
+    "seatcalls/guest_release": "GuestRef::release_or_keep GuestRef::leave",
 }
 USED = {file: names.split() for file, names in USED.items()}
 
@@ -78,13 +78,6 @@ STEPS = {
 }
 STEP = r"self \. table \. shared \. (?P<step>\w+ :: < \w+) < J > > \( hand , LIVES_START \+ spot \. start as usize , "
 
-# Functions that are to be part of their callers even where they are called from several places, by file.
-ALWAYS_INLINE = {
-    "seatcalls/ended": {"end"},
-    "seatcalls/guest_get": {"get_or_keep"},
-    "seatcalls/guest_clear": {"clear_or_keep"},
-    "seatcalls/guest_release": {"release_or_keep"},
-}
 # What steps are told that are told nothing.
 BRAND = ("std::marker", "Brand")
 # What a path may begin with beside the names of its file.
@@ -329,10 +322,9 @@ class Eraser:
         """Rust needs a word for what is to be part of a caller in another crate. What the source keeps out of line is copied for each unit that
         is compiled: in the sight of its callers there, what they tell it stays in registers."""
         told = [(name, a, b) for name, a, b in item.attributes if name in ("inline", "cold")]
-        always = item.name in ALWAYS_INLINE.get(f"{source.crate}/{source.module}", ())
         if not told:
             self.counts["written: inline"] += 1
-            source.insert(item.start, "#[inline(always)]\n" if always else "#[inline]\n")
+            source.insert(item.start, "#[inline]\n")
         elif [name for name, *_ in told] == ["cold", "inline"]:
             self.counts["written: inline"] += 1
             source.replace(told[1][1], told[1][2], "#[inline]")

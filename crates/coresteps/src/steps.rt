@@ -1,6 +1,6 @@
 //! The next step of a lane, with the act that it makes.
 ghost use Rattle.std.specs.Prelude.{option_copied, ◌<◌, ◌≤◌, ◌==◌, Bool, true, false, Option, Some, None, length, ◌≡◌, ◌++◌, ℕ, List, IfOk, if◌then◌else◌};
-ghost use Rattle.steplaws.specs.StepLaws.{HasRoom};
+ghost use Rattle.steplaws.specs.StepLaws.{CountFits};
 ghost use Rattle.steplaws.specs.Calls as steps;
 ghost use Rattle.steplaws.specs.Calls.{Caller, is_hit, is_claimed, key_in, EnterMakes, LeaveMakes, PublishMakes, TakeMakes, MarkMakes};
 ghost use Rattle.steplaws.specs.Facts.{Words};
@@ -384,7 +384,7 @@ fn copied_content(alloc: Global, act: &Act) -> Result<Bytes, CoreFault>
 /// The value that a step of this kind leaves in a word.
 fn word_after(kind: Kind, before: u64, last_generation: u32) -> u64
     requires changes { (value : ℕ) × Changes last_generation kind before value }
-    requires room { HasRoom kind before }
+    requires room { CountFits kind before }
     requires claim { (generation : ℕ) → kind ≡ kinds.Claim generation → before ≡ claimable generation → generation ≤ last_generation }
     ensures { Changes last_generation kind before result }
 {

@@ -1,32 +1,34 @@
 -- RETURN and GATHER, as steps of a seat.
 use Rattle.poolsteps.specs.Spot.{Spot as CellSpot}
-use Rattle.std.proofs.Common.{◌≡◌, ◌≢◌, ℕ, true, false, ◌+◌, ◌%◌, ◌^◌, ◌<◌, ◌≤◌, nat_lt, List, [], ◌∷◌, ◌++◌, Some, None, refl, ap, sym, ◌∙◌, subst, arith, lt-ltb, append-nil}
-use Rattle.std.proofs.lemmas.Bool.{and_from}
+use Rattle.std.proofs.Common.{◌≡◌, ◌≢◌, ⊎_elim, ℕ, zero, suc, Bool, true, false, ◌+◌, ◌%◌, ◌^◌, ◌<◌, ◌≤◌, nat_lt, List, [], ◌∷◌, ◌++◌, Option, Some, None, refl, ap, sym, ◌∙◌, subst, arith, lt-ltb, append-nil}
+use Rattle.std.proofs.lemmas.Bool.{and_from, cases_Bool}
 use mathlib.Core.Logic.{dite}
 use native.Mathlib.Decide.{ℕ_discrete}
 use Rattle.atomic_table.specs.Table.{Me}
 use Rattle.keybits.specs.declared.shape.Shape.{Shape}
 use Rattle.keybits.specs.Places.{shard_of}
 use Rattle.keybits.specs.Shapes.{is_place}
-use Rattle.keybits.specs.Rows.{set_places}
-use Rattle.keybits.proofs.RowLemmas.{set-places-are}
+use Rattle.keybits.specs.Rows.{row_place, bits_word, row_word, set_places}
+use Rattle.keybits.proofs.RowLemmas.{value-set, bits-low, set-places-are}
 use Rattle.keybits.proofs.ShapeLemmas.{is_place-parts}
+use Rattle.seqpool.specs.declared.act.Act.{Act}
 use Rattle.seqpool.specs.declared.act.Act.TheVariants as acts
 use Rattle.seqpool.specs.Pool.{with, pool_after}
 use Rattle.poolsteps.specs.declared.view.Stored.{Stored}
 use Rattle.poolsteps.specs.Shares.{Slots, Shared, room_of, after_home, after_collect}
 use Rattle.poolsteps.proofs.shares.Resting.{home-share-law, collect-share-law}
 use Rattle.steplaws.specs.declared.pending.Pending.TheVariants.{Nothing, Returns}
-use Rattle.steplaws.specs.Facts.{Words, with_under}
-use Rattle.steplaws.specs.StepLaws.{IsAllowed, KeepsBits, row_of, bit_of}
+use Rattle.steplaws.specs.Facts.{Words, Lanes, with_under, guest_home}
+use Rattle.steplaws.specs.StepLaws.{with_act, IsAllowed, KeepsBits, row_of, bit_of}
 use Rattle.steplaws.proofs.Bits.{return-law, gather-law}
-use Rattle.steplaws.proofs.Updates.{at-here, at-else}
+use Rattle.steplaws.proofs.HomePlaces.{home-parts, guest-part}
+use Rattle.steplaws.proofs.Updates.{at-here, at-else, two-here}
 use Rattle.poolsteps.specs.declared.view.LaneRecord.{LaneRecord}
 use Rattle.poolsteps.specs.declared.view.View.{View}
 use Rattle.poolsteps.specs.Layout.{has_row, row_count}
 use Rattle.poolsteps.specs.Views.{the_lane, known_of}
 use Rattle.poolsteps.specs.Rule.{World}
-use Rattle.poolsteps.specs.Returned.{given_record, gathered_record, place_under, IsAtRest, GivesBit, Gathers}
+use Rattle.poolsteps.specs.Returned.{given_record, gathered_record, place_under, IsAtRest, GivesBit, EmptiesRow, NoneGiven}
 use Rattle.poolsteps.proofs.SeatLemmas.{IsAt, IsPoint}
 use Rattle.poolsteps.proofs.Making.{moment_of, MakesBits, shared-still}
 use Rattle.poolsteps.proofs.Deeds.{home-deeds, home-others, collect-deeds, collect-cells, collect-others, collect-unknown}
@@ -40,6 +42,28 @@ has-row-of z place inside =
     let parts = is_place-parts z place inside in
     and_from (nat_lt (shard_of place) z.lanes) (nat_lt (row_of place) (row_count z)) (lt-ltb (shard_of place) z.lanes parts.0)
     (lt-ltb (row_of place) (row_count z) (let page = parts.1 in omega arith))
+
+-- of a word that is 0 no bit is set
+cleared : (n : ℕ) (set : ℕ → Bool) → bits_word n set ≡ 0 → (bit : ℕ) → bit < n → set bit ≡ false
+cleared zero set is bit below = absurd (omega arith)
+cleared (suc n) set is bit below =
+    let low = bits-low n set in dite (ℕ_discrete bit n)
+    (λ (here : bit ≡ n). ⊎_elim
+    (λ (on : set n ≡ true). let value = value-set set n on in absurd (omega arith))
+    (λ (off : set n ≡ false). ap set here ∙ off)
+    (cases_Bool (set n)))
+    (λ (other : bit ≢ n). cleared n set (omega arith) bit (omega arith))
+
+-- so no home place of a row whose word is 0 was returned by a guest
+cleared-row : (z : Shape) (shard row : ℕ) (history : List Act) → row_word shard row (guest_home z history shard) ≡ 0 → NoneGiven z history shard row
+cleared-row z shard row history is place here = ⊎_elim
+    (λ (given : guest_home z history shard place ≡ true).
+    let own = (home-parts z history shard place (guest-part z history shard place given).0).own in
+    let at : row_place shard row (bit_of place) ≡ place = omega (arith, own, here) in
+    let off = cleared 64 (λ (bit : ℕ). guest_home z history shard (row_place shard row bit)) is (bit_of place) (omega arith) in
+    ap (guest_home z history shard) (sym at) ∙ off)
+    (λ (off : guest_home z history shard place ≡ false). off)
+    (cases_Bool (guest_home z history shard place))
 
 module _ {S T : Type 0} (content : T → List ℕ) (room : T → ℕ) (spots : ℕ → CellSpot) (z : Shape) (words : Words) (w : World) (slots : Slots T)
     (point : IsPoint content room spots z words w slots) (me : Me S View) (at : IsAt z w me.0) where
@@ -110,7 +134,14 @@ module _ {S T : Type 0} (content : T → List ℕ) (room : T → ℕ) (spots : �
     places = set_places r.lane row found
 
     abbrev MakesGather : Type 0
-    MakesGather = MakesBits content room spots z words w slots r.lane row me 0 (Gathers z row me)
+    MakesGather = MakesBits content room spots z words w slots r.lane row me 0 (EmptiesRow z row me)
+
+    -- the row's word is then 0, so no bit is set of a home place that a guest returned
+    none-given : {act : Option Act} {after : Lanes} → KeepsBits z (moment_of words w) r.lane row 0 act after → (seen : List Act) → seen ≡ with_act w.history act
+        → NoneGiven z seen r.lane row
+    none-given {act} {after} keeps seen is place here = cleared-row z r.lane row seen
+        (sym (sym (two-here words.bits r.lane row 0 r.lane row refl refl) ∙ (keeps.rule.home.bits r.lane row below
+        ∙ ap (λ (h : List Act). row_word r.lane row (guest_home z h r.lane)) (sym is)))) place here
 
     gathers-none : found ≡ 0 → MakesGather
     gathers-none none =
@@ -127,7 +158,7 @@ module _ {S T : Type 0} (content : T → List ℕ) (room : T → ℕ) (spots : �
           mine = sym (append-nil r.mine);
           agrees = agrees-now z w r at.record_is;
           others = λ l other. record { under = refl; pushed = λ shard. refl; chain = refl; status = λ place number. refl; knows = λ place. refl };
-          told = λ v saw steps. (λ empty. steps, λ some. absurd (some none));
+          told = λ v saw steps. ((λ empty. steps, λ some. absurd (some none)), none-given (law.1 none) v.0.seen saw.0);
         }
 
     gathers-some : found ≢ 0 → MakesGather
@@ -162,17 +193,20 @@ module _ {S T : Type 0} (content : T → List ℕ) (room : T → ℕ) (spots : �
             knows = collect-unknown w.stock r.lane l other places;
           };
           told = λ v saw steps. (
-            λ none. absurd (some none),
-            λ more. (
-              stored,
-              λ place of. (
-                has-place z w.history w.kept r.lane places place (gathered_record r places stored) v.0 saw.0 steps.goes.lanes refl of,
-                (shares.0 place of).0,
-                subst (λ (n : ℕ). n ≤ (stored place).room)
-                    (sym (room-still z w.history w.kept r.lane places place (gathered_record r places stored) v.0 saw.0 saw.1 point.paired)) (shares.0 place of).1,
+            (
+              λ none. absurd (some none),
+              λ more. (
+                stored,
+                λ place of. (
+                  has-place z w.history w.kept r.lane places place (gathered_record r places stored) v.0 saw.0 steps.goes.lanes refl of,
+                  (shares.0 place of).0,
+                  subst (λ (n : ℕ). n ≤ (stored place).room)
+                      (sym (room-still z w.history w.kept r.lane places place (gathered_record r places stored) v.0 saw.0 saw.1 point.paired)) (shares.0 place of).1,
+                ),
+                steps,
               ),
-              steps,
             ),
+            none-given keeps v.0.seen saw.0,
           );
         }
 

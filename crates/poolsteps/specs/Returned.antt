@@ -15,7 +15,8 @@ use Rattle.poolsteps.specs.declared.view.Stored.{Stored}
 use Rattle.poolsteps.specs.Shares.{room_of, at_rest}
 use Rattle.steplaws.specs.declared.pending.Pending.{Pending}
 use Rattle.steplaws.specs.declared.pending.Pending.TheVariants.{Nothing, Undo, Owes, Returns}
-use Rattle.steplaws.specs.Facts.{home_in, returner}
+use Rattle.steplaws.specs.Facts.{home_in, guest_home, returner}
+use Rattle.steplaws.specs.StepLaws.{row_of}
 use Rattle.poolsteps.specs.declared.view.Deed.TheVariants.{Returned, Collected}
 use Rattle.poolsteps.specs.declared.view.LaneRecord.{LaneRecord}
 use Rattle.poolsteps.specs.declared.view.Heard.{Heard}
@@ -116,6 +117,10 @@ abbrev pub NoneFrom : Shape → List Act → ℕ → ℕ → Type 0
 NoneFrom z seen shard lane = (place : ℕ) → home_in z seen shard place ≡ true
     → (returner seen place < (callers z)) × (returner seen place ≢ shard) × (returner seen place ≢ lane)
 
+-- no home place of this row of the shard was returned by a guest
+abbrev pub NoneGiven : Shape → List Act → ℕ → ℕ → Type 0
+NoneGiven z seen shard row = (place : ℕ) → row_of place ≡ row → guest_home z seen shard place ≡ false
+
 -- ---- what the steps tell
 
 module _ {S : Type 0} (z : Shape) where
@@ -160,6 +165,10 @@ module _ {S : Type 0} (z : Shape) where
       × ((place : ℕ) → has places place ≡ true → HasPlace z after.0 place × ((stored place).content ≡ [])
       × (room_of after.0.seen after.0.rooms place ≤ (stored place).room))
       × RowSteps z before after (Some (acts.Collect r.lane places)) (gathered_record r places stored))
+
+  -- after which the row has no place that a guest returned
+  abbrev pub EmptiesRow : ℕ → Me S View → ℕ → Me S View → Type 0
+  EmptiesRow row before found after = Gathers row before found after × NoneGiven z after.0.seen (the_lane before.0).lane row
 
   -- a look, after which the seat saw all that it was told, with the rooms beside it
   abbrev pub SeesTold : Me S View → Me S View → Type 0

@@ -6,10 +6,10 @@ ghost use Rattle.steplaws.specs.StepLaws.{bit_of};
 ghost use Rattle.poolsteps.specs.Layout.{row_count, bits_index, word_count};
 ghost use Rattle.poolsteps.specs.Views.{the_lane, IsOne};
 ghost use Rattle.poolsteps.specs.Grids.{IsSpot, IsOf, SameSeat};
-ghost use Rattle.poolsteps.specs.Returned.{GivesBit, Gathers, IsAtRest};
+ghost use Rattle.poolsteps.specs.Returned.{GivesBit, EmptiesRow, Gathers, NoneGiven, IsAtRest};
 
+use crate::find::WORDS_APART;
 use crate::grid::{Grid, Hand, Spot};
-use crate::layout::bits_word;
 use crate::steps::Aim;
 use crate::view::View;
 use atomic_table::Play;
@@ -34,9 +34,9 @@ pub(crate) struct Gather<J: Aim> {
 }
 
 impl<S, J: Aim> Play<S, View> for Gather<J> {
-    ghost use Rattle.poolsteps.specs.Returned.{Gathers};
+    ghost use Rattle.poolsteps.specs.Returned.{EmptiesRow};
 
-    ghost then = { λ step before found after. Gathers J.shape J.key before found after };
+    ghost then = { λ step before found after. EmptiesRow J.shape J.key before found after };
 }
 
 impl<T: Clear> Grid<T> {
@@ -80,11 +80,14 @@ impl<T: Clear> Grid<T> {
         ensures word { result ≡ bits_index self.now.shape shard row }
         ensures inside { result < word_count self.now.shape }
     {
-        bits_word(&self.shape, shard, row)
+        let lanes = self.shape.lanes as usize;
+        let rows = 64 * self.shape.pages as usize;
+        let bits = self.links + self.row + WORDS_APART * (lanes * lanes);
+        bits + (shard as usize * rows + row as usize)
     }
 
-    /// GATHER of all places of a row of the lane's own shard that guests have returned: they are then with the lane. Answers
-    /// the word that was found, in which their bits are set.
+    /// GATHER of all places of a row of the lane's own shard that guests have returned: they are then with the lane, and none
+    /// is left. Answers the word that was found, in which their bits are set.
     #[inline]
     pub fn gather_row(&self, hand: &mut Hand<T>, lane: u32, row: u32) -> u64
         requires hand { IsOf self.now hand.old × IsOne hand.old.me.0 }
@@ -92,6 +95,7 @@ impl<T: Clear> Grid<T> {
         requires row { row < row_count self.now.shape }
         ensures hand { SameSeat hand.old hand.new }
         ensures gathers { Gathers self.now.shape row hand.old.me result hand.new.me }
+        ensures none_left { NoneGiven self.now.shape hand.new.me.0.seen lane row }
     {
         self.gather_row_as::<Brand>(hand, lane, row)
     }
@@ -103,7 +107,7 @@ impl<T: Clear> Grid<T> {
         requires lane { (lane ≡ (the_lane hand.old.me.0).lane) × (lane < self.now.shape.lanes) }
         requires row { row < row_count self.now.shape }
         ensures hand { SameSeat hand.old hand.new }
-        ensures gathers { Gathers self.now.shape row hand.old.me result hand.new.me }
+        ensures gathers { EmptiesRow self.now.shape row hand.old.me result hand.new.me }
     {
         let word = self.bits_of(lane, row);
         self.table.shared.swap::<Gather<J>>(hand, word, 0)

@@ -1,6 +1,8 @@
 //! A place that a guest claimed: the guest has its object, until it gives the place back.
-ghost use Rattle.std.specs.Prelude.{◌≡◌, ◌≤◌, ℕ, [], length};
+ghost use Rattle.std.specs.Prelude.{◌≡◌, ◌≢◌, ◌≤◌, ℕ, true, [], length};
 ghost use Rattle.keybits.specs.Keys.{key_number};
+ghost use Rattle.keybits.specs.Places.{shard_of};
+ghost use Rattle.steplaws.specs.Facts.{guest_home};
 ghost use Rattle.poolsteps.specs.Layout.{spots_at};
 ghost use Rattle.poolsteps.specs.Shares.{room_of};
 ghost use Rattle.poolsteps.specs.Views.{the_lane, known_of};
@@ -23,12 +25,13 @@ use std::mem;
 
 /// A place that a guest claimed, with its object, which nobody else reaches. It must be given back.
 pub struct Claimed<T> {
+    // (In this order the fields of 8 bytes are moved as such, so that a claim that is given back at once takes no memory.)
+    spot: Spot,
+    directory: Base<T>,
     hand: Hand<T>,
     number: u32,
-    shape: KeptSnapshot<Shape>,
-    spot: Spot,
     generation: u32,
-    directory: Base<T>,
+    shape: KeptSnapshot<Shape>,
     whole: Whole<T>,
 }
 
@@ -56,12 +59,25 @@ impl<T> Model for Claimed<T> {
 }
 
 impl<T: Clear + Drop> Claimed<T> {
-    ghost use Rattle.std.specs.Prelude.{◌≡◌, ◌≤◌, []};
+    ghost use Rattle.std.specs.Prelude.{◌≡◌, ◌≢◌, ◌≤◌, true, []};
     ghost use Rattle.std.specs.Borrow.{sem};
+    ghost use Rattle.keybits.specs.Places.{shard_of};
+    ghost use Rattle.keybits.specs.Shapes.{is_place};
+    ghost use Rattle.steplaws.specs.Facts.{guest_home};
     ghost use Rattle.poolsteps.specs.Shares.{room_of};
+    ghost use Rattle.poolsteps.specs.Seats.{heard_of, HasHeard};
+    ghost use Rattle.poolsteps.specs.Grids.{IsOf};
     ghost use Rattle.seatcalls.specs.Guests.{given_acts};
     ghost use Rattle.seatcalls.specs.Visitors.{Visits};
     ghost use Rattle.seatcalls.specs.ClaimLends.{LendsClaimed};
+
+    /// The place, which is one of the pool.
+    pub fn place(&self) -> u32
+        ensures place { result ≡ self.now.place }
+        ensures inside { is_place self.now.guest.shape self.now.place ≡ true }
+    {
+        self.spot.place
+    }
 
     /// The object, as it was published.
     pub fn object(&self) -> &T
@@ -78,15 +94,34 @@ impl<T: Clear + Drop> Claimed<T> {
         self.whole.get_mut(self.directory, self.spot.start as usize)
     }
 
+    /// Takes in a note: what the guest has then seen begins with what the note has. It makes a look, and no step; the place
+    /// and its object stay as they are.
+    pub fn hear(&mut self, grid: &Grid<T>, note: Hand<T>)
+        requires of { (self.old.guest.table ≡ grid.now.table.shared.table_id) × (self.old.guest.shape ≡ grid.now.shape) }
+        requires note { IsOf grid.now note × (note.me.1 ≡ []) }
+        ensures heard { HasHeard self.new.guest.book (heard_of note.me.0) }
+        ensures goes { Visits [] 0 1 self.old.guest self.new.guest }
+        ensures claimed { self.new ≡ record self.old { guest = self.new.guest } }
+        ensures room { room_of self.new.guest.book.seen self.new.guest.book.rooms self.old.place
+            ≡ room_of self.old.guest.book.seen self.old.guest.book.rooms self.old.place }
+    {
+        shares_law();
+        let number = self.number;
+        grid.hear(&mut self.hand, number, note);
+    }
+
     /// Gives the place back, whose object is empty and has no less room than it had when it was published: by one step it
     /// is home, for the lane of its shard to fill again. Where its last generation is over, it gets no object any more;
     /// this one is dropped.
+    #[inline(always)]
     pub fn give_back(self, grid: &Grid<T>, alloc: Global) -> Guest<T>
         requires table { self.guest.table ≡ grid.now.table.shared.table_id }
         requires grid { (self.guest.shape ≡ grid.now.shape) × (self.directory ≡ grid.now.objects.ptr) }
         requires empty { T.content self.object ≡ [] }
         requires room { room_of self.guest.book.seen self.guest.book.rooms self.place ≤ T.room self.object }
-        ensures { Visits (given_acts self.guest.shape self.guest.number self.place self.generation) 1 2 self.guest result }
+        ensures gives { Visits (given_acts self.guest.shape self.guest.number self.place self.generation) 1 2 self.guest result }
+        ensures home { self.generation ≢ self.guest.shape.last_generation
+            → guest_home self.guest.shape result.book.seen (shard_of self.place) self.place ≡ true }
     {
         let Claimed {
             mut hand,
@@ -107,6 +142,7 @@ impl<T: Clear + Drop> Claimed<T> {
 }
 
 /// What a guest has that claimed a place: the place's object, by two looks.
+#[inline(always)]
 pub(crate) fn keep<T: Clear + Drop>(
     grid: &Grid<T>,
     hand: Hand<T>,
@@ -141,6 +177,7 @@ pub(crate) fn keep<T: Clear + Drop>(
 }
 
 /// A place that a guest claimed at this generation goes home by its bit, with its object, which is empty; or it is retired.
+#[inline(always)]
 fn give_home<T: Clear + Drop>(
     grid: &Grid<T>,
     hand: &mut Hand<T>,
@@ -161,6 +198,8 @@ fn give_home<T: Clear + Drop>(
         (length (given_acts grid.now.shape number spot.place generation)) 2 hand.old.me hand.new.me }
     ensures idle { IsIdle hand.new.me.0 }
     ensures rests { generation ≡ grid.now.shape.last_generation → AreAtRest grid.now.shape (the_lane hand.new.me.0) spot.place }
+    ensures home { generation ≢ grid.now.shape.last_generation
+        → guest_home grid.now.shape hand.new.me.0.seen (shard_of spot.place) spot.place ≡ true }
 {
     shares_law();
     if generation == grid.shape.last_generation {
@@ -171,7 +210,10 @@ fn give_home<T: Clear + Drop>(
     grid.give_bit(hand, spot);
 }
 
-/// Drops the object of a place that gets none any more: an empty one then rests there until the pool is closed.
+/// Drops the object of a place that gets none any more: an empty one then rests there until the pool is closed. Apart, for
+/// each place comes here once at most.
+#[cold]
+#[inline(never)]
 fn retire_at<T: Clear + Drop>(
     grid: &Grid<T>,
     hand: &mut Hand<T>,

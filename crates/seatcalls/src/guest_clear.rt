@@ -4,7 +4,7 @@ ghost use Rattle.keybits.specs.Keys.{is_key, place_of};
 ghost use Rattle.seqpool.specs.declared.act.Act.TheVariants as acts;
 ghost use Rattle.poolsteps.specs.AtOnce.{unreferred};
 ghost use Rattle.poolsteps.specs.Grids.{IsSpot};
-ghost use Rattle.seatcalls.specs.Endings.{Ends};
+ghost use Rattle.seatcalls.specs.Endings.{Ends, Settles};
 
 use crate::claimed::keep;
 use crate::ended::{Ended, end};
@@ -15,16 +15,19 @@ use slotcell::Clear;
 use std::alloc::Global;
 
 impl<T: Clear + Drop> Guest<T> {
-    ghost use Rattle.std.specs.Prelude.{◌≡◌, true, false, ◌∷◌, [], IsTrue, IsFalse};
+    ghost use Rattle.std.specs.Prelude.{◌≡◌, true, false, ◌∷◌, [], IsTrue, IsFalse, IfOk, IfErr};
     ghost use Rattle.keybits.specs.Keys.{is_key, place_of};
     ghost use Rattle.seqpool.specs.declared.act.Act.TheVariants as acts;
     ghost use Rattle.seatcalls.specs.declared.ended.Ended.TheVariants.{Free};
+    ghost use Rattle.poolsteps.specs.Grids.{IsSpot};
     ghost use Rattle.seatcalls.specs.Endings.{Ends, Settles};
     ghost use Rattle.seatcalls.specs.Sightings.{Cleared, Missed};
+    ghost use Rattle.seatcalls.specs.Visitors.{Visits};
 
     /// Clears the object of a key: true where it is this call that marked the key, which a get then finds no more. The last
     /// that refers to the object clears it in place, and gives its place back. False for a key that is marked or not
     /// published, and for a number that is no key of the pool, without a step. It takes no memory, and waits for nobody.
+    #[inline(always)]
     pub fn clear(self, grid: &Grid<T>, key: u64, alloc: Global) -> (bool, Guest<T>)
         requires of { (self.table ≡ grid.now.table.shared.table_id) × (self.shape ≡ grid.now.shape) }
         ensures outside { is_key self.shape key ≡ false → (result.0 ≡ false) × (result.1 ≡ self) }
@@ -34,11 +37,17 @@ impl<T: Clear + Drop> Guest<T> {
         ensures missed { IsFalse result.0 → is_key self.shape key ≡ true → Missed key self result.1 }
     {
         self.seen_law();
-        let (marked, ended) = self.clear_or_keep(grid, key);
-        (marked, ended.settle(grid, alloc))
+        let Some(spot) = grid.find_key(key) else {
+            return (false, self);
+        };
+        match self.clear_at_once(grid, spot, key) {
+            Ok((marked, ended)) => (marked, ended.settle(grid, alloc)),
+            Err(guest) => clear_apart(grid, guest, spot, key, alloc),
+        }
     }
 
     /// As `clear`. Where the guest claims the key's place, it keeps it, with its object.
+    #[inline(always)]
     pub fn clear_or_keep(self, grid: &Grid<T>, key: u64) -> (bool, Ended<T>)
         requires of { (self.table ≡ grid.now.table.shared.table_id) × (self.shape ≡ grid.now.shape) }
         ensures outside { is_key self.shape key ≡ false → (result.0 ≡ false) × (result.1 ≡ Free self) }
@@ -48,6 +57,31 @@ impl<T: Clear + Drop> Guest<T> {
         let Some(spot) = grid.find_key(key) else {
             return (false, Ended::Free(self));
         };
+        match self.clear_at_once(grid, spot, key) {
+            Ok(answer) => answer,
+            Err(guest) => clear_by_steps(grid, guest, spot, key),
+        }
+    }
+
+    /// A clear of a key whose steps are one operation.
+    ///
+    /// # Errors
+    ///
+    /// The guest, where another caller stepped on the key's word meanwhile: then it looked, and did nothing.
+    #[inline(always)]
+    fn clear_at_once(
+        self,
+        grid: &Grid<T>,
+        spot: Spot,
+        key: u64,
+    ) -> Result<(bool, Ended<T>), Guest<T>>
+        requires of { (self.table ≡ grid.now.table.shared.table_id) × (self.shape ≡ grid.now.shape) }
+        requires key { is_key grid.now.shape key ≡ true }
+        requires spot { IsSpot grid.now.shape spot (place_of key) }
+        ensures clears { IfOk result (λ answer. Ends T.content T.room grid.now.objects.ptr (place_of key)
+            (acts.Clear self.number key answer.0 ∷ []) 4 4 self answer.1) }
+        ensures late { IfErr result (λ guest. Visits [] 0 2 self guest) }
+    {
         let Guest {
             mut hand,
             number,
@@ -57,51 +91,57 @@ impl<T: Clear + Drop> Guest<T> {
         let found = grid.sweep(&mut hand, spot, key);
         if found == unreferred(generation) {
             let claimed = keep(grid, hand, number, shape, spot, generation);
-            return (true, Ended::Kept(claimed));
+            return Ok((true, Ended::Kept(claimed)));
         }
         if is_hit(key, found) {
-            if grid.strike(&mut hand, spot, key, found) == found {
-                return (
-                    true,
-                    Ended::Free(Guest {
-                        hand,
-                        number,
-                        shape,
-                    }),
-                );
+            let struck = grid.strike(&mut hand, spot, key, found);
+            if struck == found {
+                let guest = Guest {
+                    hand,
+                    number,
+                    shape,
+                };
+                return Ok((true, Ended::Free(guest)));
             }
-            return clear_by_steps(
-                grid,
-                Guest {
-                    hand,
-                    number,
-                    shape,
-                },
-                spot,
-                key,
-            );
-        }
-        if owes_claim(found.wrapping_add(ONE_COUNT)) {
-            return clear_by_steps(
-                grid,
-                Guest {
-                    hand,
-                    number,
-                    shape,
-                },
-                spot,
-                key,
-            );
-        }
-        (
-            false,
-            Ended::Free(Guest {
+            return Err(Guest {
                 hand,
                 number,
                 shape,
-            }),
-        )
+            });
+        }
+        if owes_claim(found.wrapping_add(ONE_COUNT)) {
+            return Err(Guest {
+                hand,
+                number,
+                shape,
+            });
+        }
+        let guest = Guest {
+            hand,
+            number,
+            shape,
+        };
+        Ok((false, Ended::Free(guest)))
     }
+}
+
+/// As `clear_by_steps`. Where the guest claims the place, the object is cleared in place, and the place given back.
+#[cold]
+#[inline(never)]
+fn clear_apart<T: Clear + Drop>(
+    grid: &Grid<T>,
+    guest: Guest<T>,
+    spot: Spot,
+    key: u64,
+    alloc: Global,
+) -> (bool, Guest<T>)
+    requires of { (guest.table ≡ grid.now.table.shared.table_id) × (guest.shape ≡ grid.now.shape) }
+    requires key { is_key guest.shape key ≡ true }
+    requires spot { IsSpot grid.now.shape spot (place_of key) }
+    ensures { Settles (place_of key) (acts.Clear guest.number key result.0 ∷ []) 5 4 guest result.1 }
+{
+    let (marked, ended) = clear_by_steps(grid, guest, spot, key);
+    (marked, ended.settle(grid, alloc))
 }
 
 /// A clear of a key, each of whose steps is an operation: where another caller stepped on the key's word meanwhile. Away

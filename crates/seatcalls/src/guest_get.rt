@@ -1,12 +1,12 @@
 //! A get by a guest.
 ghost use Rattle.std.specs.Prelude.{◌≡◌, true};
 
-use crate::ended::{Ended, end};
+use crate::ended::{Ended, Parted, end, settle_end};
 use crate::guests::Guest;
 use crate::kept_hand::KeptHand;
 use crate::references::GuestRef;
 use keybits::is_hit;
-use poolsteps::{Grid, Purpose, Slot, shares_law};
+use poolsteps::{Grid, Purpose, Slot, Spot, shares_law};
 use slotcell::Clear;
 use std::alloc::Global;
 
@@ -15,7 +15,11 @@ impl<T: Clear + Drop> Guest<T> {
     ghost use Rattle.keybits.specs.Keys.{is_key, place_of};
     ghost use Rattle.seqpool.specs.declared.act.Act.TheVariants as acts;
     ghost use Rattle.seatcalls.specs.declared.ended.Ended.TheVariants.{Free};
-    ghost use Rattle.seatcalls.specs.Visitors.{Visits};
+    ghost use Rattle.steplaws.specs.StepLaws.{owed_after};
+    ghost use Rattle.poolsteps.specs.Grids.{IsSpot};
+    ghost use Rattle.poolsteps.specs.Views.{the_lane};
+    ghost use Rattle.seatcalls.specs.Guests.{MayGive};
+    ghost use Rattle.seatcalls.specs.Visitors.{FitsGuest, HasNoReference, Visits};
     ghost use Rattle.seatcalls.specs.Endings.{Ends, Settles};
     ghost use Rattle.seatcalls.specs.Sightings.{Found, Missed};
 
@@ -25,6 +29,7 @@ impl<T: Clear + Drop> Guest<T> {
     ///
     /// The guest, where the key is marked or not published, or the number is no key of the pool. The last that refers to a
     /// key that is cleared has its place: where that is the guest, the object is cleared in place, and the place given back.
+    #[inline(always)]
     pub fn get(self, grid: &Grid<T>, key: u64, alloc: Global) -> Result<GuestRef<T>, Guest<T>>
         requires of { (self.table ≡ grid.now.table.shared.table_id) × (self.shape ≡ grid.now.shape) }
         ensures outside { IfErr result (λ guest. is_key self.shape key ≡ false → guest ≡ self) }
@@ -38,13 +43,17 @@ impl<T: Clear + Drop> Guest<T> {
         ensures missed { IfErr result (λ guest. is_key self.shape key ≡ true → Missed key self guest) }
     {
         self.seen_law();
-        match self.get_or_keep(grid, key) {
+        let Some(spot) = grid.find_key(key) else {
+            return Err(self);
+        };
+        match self.enter(grid, spot, key) {
             Ok(reference) => Ok(reference),
-            Err(ended) => Err(ended.settle(grid, alloc)),
+            Err(parted) => Err(settle_end(grid, parted, alloc)),
         }
     }
 
     /// As `get`. Where the guest claims the key's place, it keeps it, with its object.
+    #[inline(always)]
     pub fn get_or_keep(self, grid: &Grid<T>, key: u64) -> Result<GuestRef<T>, Ended<T>>
         requires of { (self.table ≡ grid.now.table.shared.table_id) × (self.shape ≡ grid.now.shape) }
         ensures outside { IfErr result (λ ended. is_key self.shape key ≡ false → ended ≡ Free self) }
@@ -55,10 +64,42 @@ impl<T: Clear + Drop> Guest<T> {
         ensures misses { IfErr result (λ ended. is_key self.shape key ≡ true
             → Ends T.content T.room grid.now.objects.ptr (place_of key) (acts.Get self.number key None ∷ []) 3 2 self ended) }
     {
-        shares_law();
         let Some(spot) = grid.find_key(key) else {
             return Err(Ended::Free(self));
         };
+        match self.enter(grid, spot, key) {
+            Ok(reference) => Ok(reference),
+            Err(
+                Parted {
+                    hand,
+                    number,
+                    shape,
+                    spot,
+                    found,
+                },
+            ) => Err(end(grid, hand, number, shape, spot, found)),
+        }
+    }
+
+    /// ENTER of a get of a key, and the LEAVE of one that misses.
+    #[inline(always)]
+    fn enter(self, grid: &Grid<T>, spot: Spot, key: u64) -> Result<GuestRef<T>, Parted<T>>
+        requires of { (self.table ≡ grid.now.table.shared.table_id) × (self.shape ≡ grid.now.shape) }
+        requires key { is_key grid.now.shape key ≡ true }
+        requires spot { IsSpot grid.now.shape spot (place_of key) }
+        ensures key { IfOk result (λ reference. (reference.key ≡ key) × (reference.directory ≡ grid.now.objects.ptr)) }
+        ensures gets { IfOk result (λ reference. (content : List ℕ)
+            × Visits (acts.Get self.number key (Some content) ∷ []) 1 2 self reference.guest) }
+        ensures place { IfErr result (λ parted. parted.spot.place ≡ place_of key) }
+        ensures act { IfErr result (λ parted. MayGive grid.now parted.hand parted.spot parted.number) }
+        ensures shape { IfErr result (λ parted. parted.shape.value ≡ grid.now.shape) }
+        ensures fits { IfErr result (λ parted. FitsGuest grid.now.shape parted.hand.me.0 parted.number) }
+        ensures bare { IfErr result (λ parted. HasNoReference grid.now.shape parted.hand.me.0) }
+        ensures owes { IfErr result (λ parted. (the_lane parted.hand.me.0).under ≡ owed_after parted.spot.place parted.found) }
+        ensures made { IfErr result (λ parted. Visits (acts.Get self.number key None ∷ []) 2 0 self
+            (record { table = parted.hand.table_id; shape = grid.now.shape; number = parted.number; book = parted.hand.me.0 })) }
+    {
+        shares_law();
         let Guest {
             mut hand,
             number,
@@ -78,6 +119,12 @@ impl<T: Clear + Drop> Guest<T> {
             });
         }
         let left = grid.leave(&mut hand, spot, key);
-        Err(end(grid, hand, number, shape, spot, left))
+        Err(Parted {
+            hand,
+            number,
+            shape,
+            spot,
+            found: left,
+        })
     }
 }

@@ -9,3 +9,4 @@ pub mod Takes
 pub mod Gathers
 pub mod Words
 pub mod Starts
+pub mod EmptiedRows

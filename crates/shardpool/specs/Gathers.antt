@@ -5,6 +5,8 @@ use Rattle.keybits.specs.Rows.{set_places}
 use Rattle.seqpool.specs.declared.act.Act.{Act}
 use Rattle.seqpool.specs.declared.act.Act.TheVariants as acts
 use Rattle.seqpool.specs.Pool.{has}
+use Rattle.steplaws.specs.Facts.{guest_home}
+use Rattle.steplaws.specs.StepLaws.{row_of}
 use Rattle.freelists.specs.Shards.{place_numbered}
 use Rattle.poolsteps.specs.Views.{the_lane}
 use Rattle.shardpool.specs.declared.create.CreateFault.{CreateFault}
@@ -12,7 +14,7 @@ use Rattle.shardpool.specs.Tokens.{PoolOf, LaneOf, FillingOf}
 use Rattle.shardpool.specs.Marks.{rows_of_page}
 use Rattle.shardpool.specs.AfterCalls.{KeepsFillings, AfterCreate}
 use Rattle.shardpool.specs.Places.{IsResting}
-use Rattle.shardpool.specs.Lanes.{holds, IsFilling, SameLane, SeesOn}
+use Rattle.shardpool.specs.Lanes.{holds, IsFilling, SameLane, SeesOn, Did}
 
 -- the act by which a lane gathers the places of a row whose word this is; none where that is 0
 abbrev pub gather_acts : ℕ → ℕ → ℕ → List Act
@@ -33,10 +35,16 @@ pub record Brings (made : List Act) (places : List ℕ) (old new : LaneOf) : Typ
   pub list : new.free ≡ record old.free { own = old.free.own ++ map place_numbered places }
   pub pages : new.pages ≡ old.pages
 
+-- among these places is each of the row of which the lane had seen that a guest returned it
+abbrev pub HasGiven : LaneOf → ℕ → List ℕ → Type 0
+HasGiven lane row places = (place : ℕ) → guest_home lane.shape lane.book.seen lane.number place ≡ true → row_of place ≡ row
+    → has places place ≡ true
+
 -- GATHER of a row, whose word this was: its places are with the lane
 pub record GathersRow (row word : ℕ) (old new : LaneOf) : Type 0 where
   pub brings : Brings (gather_acts old.number row word) [] old new
   pub gathered : (place : ℕ) → has (set_places old.number row word) place ≡ true → IsGathered new place
+  pub given : HasGiven old row (set_places old.number row word)
   pub steps : new.book.steps ≡ old.book.steps + 1
   pub looks : new.book.looks ≡ old.book.looks
 
@@ -51,9 +59,23 @@ pub record ListsGathered (place : ℕ) (old new : LaneOf) : Type 0 where
 pub record AfterGather (row : ℕ) (old new : LaneOf) (count : ℕ) : Type 0 where
   pub word : ℕ
   pub counts : length (set_places old.number row word) ≡ count
+  pub given : HasGiven old row (set_places old.number row word)
   pub brings : Brings (gather_acts old.number row word) (set_places old.number row word) old new
   pub steps : new.book.steps ≡ old.book.steps + 1
   pub looks : new.book.looks ≡ old.book.looks + 2 * count
+
+-- ---- a place that is taken back
+
+-- the lane took back a place that a guest claimed at this generation: it heard of the guest's return, and gathered the row; where the place
+-- isn't retired, it is one of those that went to the lane's list
+pub record AfterTakeBack (place generation : ℕ) (old new : LaneOf) : Type 0 where
+  pub between : LaneOf
+  pub hears : Did [] old between
+  pub steps : between.book.steps ≡ old.book.steps
+  pub looks : between.book.looks ≡ old.book.looks + 2
+  pub count : ℕ
+  pub gathers : AfterGather (row_of place) between new count
+  pub listed : generation ≢ old.shape.last_generation → has (set_places old.number (row_of place) gathers.word) place ≡ true
 
 -- ---- a create that gathers
 

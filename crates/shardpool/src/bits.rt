@@ -3,11 +3,20 @@ ghost use Rattle.std.specs.Prelude.{◌≡◌, ◌<◌, ◌∷◌, false};
 ghost use Rattle.seqpool.specs.Pool.{has};
 ghost use Rattle.keybits.specs.declared.shape.TheConstants.{MOST_LANES};
 ghost use Rattle.keybits.specs.Rows.{set_places};
+ghost use Rattle.steplaws.specs.StepLaws.{row_of};
 
 use keybits::SHARD_NUMBERS;
 
 /// How many places have their bits in one word.
 pub(crate) const ROW_PLACES: u32 = 64;
+
+/// The row of its shard in which a place has its bit.
+#[inline]
+pub(crate) fn row_of(place: u32) -> u32
+    ensures { result ≡ row_of place }
+{
+    place % SHARD_NUMBERS / ROW_PLACES
+}
 
 /// The place that has the highest bit set in the word of a shard's row. The bit then is clear.
 #[inline]

@@ -1,6 +1,8 @@
 //! The calls of guests, by their pool.
-ghost use Rattle.std.specs.Prelude.{◌≡◌, ◌≤◌, ◌↔◌, true, false, Some, None, ◌∷◌, [], ℕ, List, IfOk, IfErr, IsTrue, IsFalse};
+ghost use Rattle.std.specs.Prelude.{◌≡◌, ◌≢◌, ◌≤◌, ◌↔◌, true, false, Some, None, ◌∷◌, [], ℕ, List, IfOk, IfErr, IsTrue, IsFalse};
 ghost use Rattle.keybits.specs.Keys.{is_key, place_of};
+ghost use Rattle.keybits.specs.Places.{shard_of};
+ghost use Rattle.steplaws.specs.Facts.{guest_home};
 ghost use Rattle.seqpool.specs.declared.act.Act.TheVariants as acts;
 ghost use Rattle.poolsteps.specs.Shares.{room_of};
 ghost use Rattle.seatcalls.specs.declared.ended.Ended.TheVariants.{Free};
@@ -21,6 +23,7 @@ impl<T: Clear + Drop> Pool<T> {
     ///
     /// The guest, where the key is marked or not published, or the number is no key of the pool. The last that refers to a
     /// key that is cleared has its place: where that is the guest, the object is cleared in place, and the place given back.
+    #[inline(always)]
     pub fn get_by(&self, guest: Guest<T>, key: u64) -> Result<GuestRef<T>, Guest<T>>
         requires owns { OwnsGuest self.now guest }
         ensures outside { IfErr result (λ after. is_key guest.shape key ≡ false → after ≡ guest) }
@@ -37,6 +40,7 @@ impl<T: Clear + Drop> Pool<T> {
     }
 
     /// As `get_by`. Where the guest claims the key's place, it keeps it, with its object.
+    #[inline(always)]
     pub fn get_or_keep_by(&self, guest: Guest<T>, key: u64) -> Result<GuestRef<T>, Ended<T>>
         requires owns { OwnsGuest self.now guest }
         ensures outside { IfErr result (λ ended. is_key guest.shape key ≡ false → ended ≡ Free guest) }
@@ -52,6 +56,7 @@ impl<T: Clear + Drop> Pool<T> {
 
     /// Gives a guest's reference back, and answers the guest. Where it was the last to a key that is cleared, the object is
     /// cleared in place, and the place given back. It takes no memory, and waits for nobody.
+    #[inline(always)]
     pub fn release_of(&self, reference: GuestRef<T>) -> Guest<T>
         requires owns { OwnsGuest self.now reference.guest }
         requires directory { reference.directory ≡ self.now.directory }
@@ -61,6 +66,7 @@ impl<T: Clear + Drop> Pool<T> {
     }
 
     /// As `release_of`. Where the guest claims the key's place, it keeps it, with its object.
+    #[inline(always)]
     pub fn release_or_keep_of(&self, reference: GuestRef<T>) -> Ended<T>
         requires owns { OwnsGuest self.now reference.guest }
         requires directory { reference.directory ≡ self.now.directory }
@@ -74,6 +80,7 @@ impl<T: Clear + Drop> Pool<T> {
     /// more. The last that refers to the object clears it in place, and gives its place back. False for a key that is marked
     /// or not published, and for a number that is no key of the pool, without a step. It takes no memory, and waits for
     /// nobody.
+    #[inline(always)]
     pub fn clear_by(&self, guest: Guest<T>, key: u64) -> (bool, Guest<T>)
         requires owns { OwnsGuest self.now guest }
         ensures outside { is_key guest.shape key ≡ false → (result.0 ≡ false) × (result.1 ≡ guest) }
@@ -86,6 +93,7 @@ impl<T: Clear + Drop> Pool<T> {
     }
 
     /// As `clear_by`. Where the guest claims the key's place, it keeps it, with its object.
+    #[inline(always)]
     pub fn clear_or_keep_by(&self, guest: Guest<T>, key: u64) -> (bool, Ended<T>)
         requires owns { OwnsGuest self.now guest }
         ensures outside { is_key guest.shape key ≡ false → (result.0 ≡ false) × (result.1 ≡ Free guest) }
@@ -115,7 +123,10 @@ impl<T: Clear + Drop> Pool<T> {
         requires directory { claimed.directory ≡ self.now.directory }
         requires empty { T.content claimed.object ≡ [] }
         requires room { room_of claimed.guest.book.seen claimed.guest.book.rooms claimed.place ≤ T.room claimed.object }
-        ensures { Visits (given_acts claimed.guest.shape claimed.guest.number claimed.place claimed.generation) 1 2 claimed.guest result }
+        ensures gives { Visits (given_acts claimed.guest.shape claimed.guest.number claimed.place claimed.generation) 1 2
+            claimed.guest result }
+        ensures home { claimed.generation ≢ claimed.guest.shape.last_generation
+            → guest_home claimed.guest.shape result.book.seen (shard_of claimed.place) claimed.place ≡ true }
     {
         claimed.give_back(&self.grid, self.alloc)
     }

@@ -5,7 +5,7 @@ ghost use Rattle.steplaws.specs.Facts.{most_references};
 use crate::closing::HandRow;
 use crate::get::end_miss;
 use crate::notes::Note;
-use crate::pool::{Apart, Lane, LaneState, Pool};
+use crate::pool::{CachePadded, Lane, LaneState, Pool};
 use crate::reclaim::finish_if_owed;
 use keybits::{is_hit, place_of};
 use poolsteps::{Base, Hand, Purpose, Slot, Spot, shares_law};
@@ -63,10 +63,10 @@ impl<T> Loan<T> {
 #[derive(Drop)]
 pub struct LendingLane<T: Clear> {
     hand: Hand<T>,
-    ahead: Apart,
+    ahead: CachePadded,
     state: LaneState<T>,
     row: HandRow<T>,
-    behind: Apart,
+    behind: CachePadded,
 }
 
 impl<T: Clear> Model for LendingLane<T> {

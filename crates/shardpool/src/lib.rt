@@ -27,6 +27,7 @@ mod reclaim;
 mod release;
 mod returned_shares;
 mod stores;
+mod take_back;
 
 pub use census::{Census, Part};
 pub use closing::{close, close_with_guests};

@@ -14,7 +14,7 @@ ghost use Rattle.shardpool.specs.Opened.{first_book, AreFirstLanes, AreFirstGues
 use crate::closing::HandRow;
 use crate::fault::{GuestsFault, OpenFault};
 use crate::guests::Guests;
-use crate::pool::{Apart, HeldKey, Lane, LaneState, Places, Pool};
+use crate::pool::{CachePadded, HeldKey, Lane, LaneState, Places, Pool};
 use freelists::{LocalFree, Pages};
 use keybits::{MOST_GUESTS, Shape};
 use poolsteps::{Base, Directory, Grid, Hand, Objects, shard_start, slot_row};
@@ -176,10 +176,10 @@ fn endow<T: Clear + Drop>(
         state.objects.endow(directory);
         lanes.push_reserved(Lane {
             hand,
-            ahead: Apart::new(),
+            ahead: CachePadded::new(),
             state,
             row,
-            behind: Apart::new(),
+            behind: CachePadded::new(),
         });
     }
     lanes

@@ -120,10 +120,10 @@ pub(crate) struct LaneState<T> {
 #[derive(Drop)]
 pub struct Lane<T: Clear> {
     pub(crate) hand: Hand<T>,
-    pub(crate) ahead: Apart,
+    pub(crate) ahead: CachePadded,
     pub(crate) state: LaneState<T>,
     pub(crate) row: HandRow<T>,
-    pub(crate) behind: Apart,
+    pub(crate) behind: CachePadded,
 }
 
 impl<T: Clear> Model for Lane<T> {
@@ -219,13 +219,13 @@ fn page_starts(shape: &Shape) -> [u32; MOST_PAGES as usize]
 
 /// So many bytes, at an end of what a lane writes in each call.
 #[derive(Drop)]
-pub(crate) struct Apart {
+pub(crate) struct CachePadded {
     unused: [u64; BYTES_APART / 8],
 }
 
-impl Apart {
-    pub(crate) fn new() -> Apart {
-        Apart {
+impl CachePadded {
+    pub(crate) fn new() -> CachePadded {
+        CachePadded {
             unused: [0; BYTES_APART / 8],
         }
     }

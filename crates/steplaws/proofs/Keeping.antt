@@ -13,7 +13,7 @@ use Rattle.steplaws.specs.Facts.{put_at, put_two, Words, with_value, Lanes, Mome
 use Rattle.steplaws.proofs.Updates.{at-here, at-else, two-here, two-row, two-else}
 use Rattle.keybits.specs.declared.step.Kind.{Kind}
 use Rattle.keybits.specs.Steps.{Changes}
-use Rattle.steplaws.specs.StepLaws.{with_act, moment_after, IsAllowed, HasRoom, Keeps}
+use Rattle.steplaws.specs.StepLaws.{with_act, moment_after, IsAllowed, CountFits, Keeps}
 use Rattle.steplaws.specs.Facts.{value_of}
 
 -- the last act of a legal history is allowed
@@ -22,7 +22,7 @@ allowed-last z h None legal = tt
 allowed-last z h (Some act) legal = let l = legal-rest z fresh h (act ∷ []) legal in (l.0, l.1)
 
 pub keeps : (z : Shape) (m : Moment) (kind : Kind) (word : Word) (value : ℕ) (act : Option Act) (lanes : Lanes)
-    → Changes z.last_generation kind (value_of m.words word) value → HasRoom kind (value_of m.words word) → Rule z (moment_after m word value act lanes)
+    → Changes z.last_generation kind (value_of m.words word) value → CountFits kind (value_of m.words word) → Rule z (moment_after m word value act lanes)
     → Keeps z m kind word value act lanes
 keeps z m kind word value act lanes changes room rule =
     record { changes = changes; room = room; allowed = allowed-last z m.history act rule.legal; rule = rule }

@@ -39,16 +39,16 @@ IsAllowed z history None = Unit {0}
 IsAllowed z history (Some act) = (lane_of act < callers z) × Allowed z (pool_after z history) act
 
 -- a count that the kind of step raises stays in its field
-abbrev pub HasRoom : Kind → ℕ → Type 0
-HasRoom kinds.Enter word = count_in word < 1073741823
-HasRoom (kinds.Publish with_ref) word = count_in word < 1073741823
-HasRoom kind word = Unit {0}
+abbrev pub CountFits : Kind → ℕ → Type 0
+CountFits kinds.Enter word = count_in word < 1073741823
+CountFits (kinds.Publish with_ref) word = count_in word < 1073741823
+CountFits kind word = Unit {0}
 
 -- a step of this kind that leaves this value in the word and makes this act or none, after which the lanes are these
 pub record Keeps (z : Shape) (m : Moment) (kind : Kind) (word : Word) (value : ℕ) (act : Option Act) (lanes : Lanes) : Type 0 where
   -- it meets the step relation, and no count leaves its field
   pub changes : Changes z.last_generation kind (value_of m.words word) value
-  pub room : HasRoom kind (value_of m.words word)
+  pub room : CountFits kind (value_of m.words word)
   -- its act is allowed
   pub allowed : IsAllowed z m.history act
   -- the rule holds of the moment after it

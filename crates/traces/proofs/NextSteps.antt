@@ -20,7 +20,7 @@ use Rattle.seqpool.specs.Pool.{references, pool_after, IsLegal}
 use Rattle.steplaws.specs.declared.pending.Pending.TheVariants.{Nothing, Undo, Owes, Returns}
 use Rattle.steplaws.specs.Calls.{Call, Publishing, Getting, Releasing, Clearing, Creating, Caller, Aim, aim, is_hit, owes_claim, is_claimed, first_lane, end_next, mark_next, take_next, next_step, AreSteps, key_in, KindMakes}
 use Rattle.steplaws.specs.Facts.{most_of, value_of, Lanes, Moment, moment, Rule}
-use Rattle.steplaws.specs.StepLaws.{HasRoom, Keeps, IsFilling}
+use Rattle.steplaws.specs.StepLaws.{CountFits, Keeps, IsFilling}
 use Rattle.steplaws.proofs.Lives.{most-lane}
 use Rattle.steplaws.proofs.Enters.{get-hits-law, get-misses-law, clear-hits-law, clear-misses-law}
 use Rattle.steplaws.proofs.Leaves.{undo-law, release-law}
@@ -45,7 +45,7 @@ module _ (z : Shape) (m : Moment) (lane : ℕ) (pushed : ℕ → ℕ) (rule : Ru
   abbrev Can : Call → Aim → Type 0
   Can call next = (value : ℕ) × (act : Option Act) × Changes z.last_generation next.kind (value_of m.words next.word) value
       × KindMakes next.kind the_caller call m.words.link next.word (value_of m.words next.word) act
-      × HasRoom next.kind (value_of m.words next.word) × IsLegal z (m.history ++ act_list act)
+      × CountFits next.kind (value_of m.words next.word) × IsLegal z (m.history ++ act_list act)
 
   -- by a law of the step
   can_by : (call : Call) (kind : Kind) (word : Word) (value : ℕ) (act : Option Act) (lanes : Lanes) (next : Aim) → aim kind word ≡ next
@@ -366,7 +366,7 @@ module _ (z : Shape) (w : World) (lane : ℕ) (next : Aim) (h : Holds z w) (belo
 
   abbrev Made : ℕ → Option Act → Type 0
   Made value act = IsStep z lane w.words book (record { kind = next.kind; word = next.word; before = value_of w.words next.word; after = value }) act
-      × HasRoom next.kind (value_of w.words next.word) × IsLegal z (w.history ++ act_list act)
+      × CountFits next.kind (value_of w.words next.word) × IsLegal z (w.history ++ act_list act)
 
   by_call : (o : Option Call) → call_under_way book ≡ o → next_aim z lane book ≡ Some next → (value : ℕ) × (act : Option Act) × Made value act
   by_call None e goes = no_next next (sym (ap (next_in (caller z lane book) book.steps) e) ∙ goes)
@@ -391,6 +391,6 @@ module _ (z : Shape) (w : World) (lane : ℕ) (next : Aim) (h : Holds z w) (belo
 pub step_exists : (z : Shape) (w : World) (lane : ℕ) (next : Aim) → Holds z w → lane < z.lanes → next_aim z lane (w.books lane) ≡ Some next
     → (value : ℕ) × (act : Option Act)
     × IsStep z lane w.words (w.books lane) (record { kind = next.kind; word = next.word; before = value_of w.words next.word; after = value }) act
-    × HasRoom next.kind (value_of w.words next.word) × IsLegal z (w.history ++ act_list act)
+    × CountFits next.kind (value_of w.words next.word) × IsLegal z (w.history ++ act_list act)
 step_exists z w lane next h below goes =
     let s = by_call z w lane next h below (call_under_way (w.books lane)) refl goes in (s.0, s.1, s.2.0, s.2.1, s.2.2)

@@ -11,7 +11,7 @@ use Rattle.poolsteps.specs.declared.view.Status.TheVariants.{Untouched, Emptied,
 use Rattle.poolsteps.specs.declared.view.LaneRecord.{LaneRecord}
 use Rattle.poolsteps.specs.declared.view.View.{View}
 use Rattle.poolsteps.specs.Views.{head_record, the_lane, status_of, known_of, IsOne}
-use Rattle.poolsteps.specs.Told.{GoesOn, HasPlace}
+use Rattle.poolsteps.specs.Told.{GoesOn, Sees, HasPlace}
 use mathlib.Core.Logic.{dite}
 use native.Mathlib.Decide.{ℕ_discrete}
 use Rattle.seatcalls.specs.Called.{IsUnmoved}
@@ -177,3 +177,15 @@ module _ {S : Type 0} {z : Shape} {place n : ℕ} {before after : Me S View} (ca
   -- any place that was with the lane still is
   pub carried-place : SharesLaw → (p : ℕ) → HasPlace z before.0 p → HasPlace z after.0 p
   carried-place law p has = (law z before.0 after.0 (the_lane after.0) carries.goes carries.elsewhere.lane p 0 (may-touch z before.0 p 0 has)).1 has
+
+-- a look moves no share
+pub carries-sees : {S : Type 0} {z : Shape} {a b : Me S View} (place : ℕ) → Sees z a b → Carries z place 1 a b
+carries-sees {z = z} {a = a} {b = b} place sees =
+    let now : the_lane b.0 ≡ the_lane a.0 = ap head_record sees.goes.lanes in record {
+      goes = subst (λ (r : LaneRecord). GoesOn z a.0 b.0 [] [] r) (sym now) sees.goes;
+      elsewhere = subst (λ (r : LaneRecord). IsElsewhere place (the_lane a.0) r) (sym now)
+          (record { lane = refl; mine = refl; under = refl; pushed = refl; chain = refl; deeds = λ p number other. refl; cells = λ p other. refl });
+      held = sees.held;
+      steps = sees.steps;
+      looked = sees.looks;
+    }

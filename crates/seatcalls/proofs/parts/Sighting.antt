@@ -14,7 +14,7 @@ use Rattle.steplaws.specs.StepLaws.{reclaim}
 use Rattle.poolsteps.specs.Views.{the_lane}
 use Rattle.seatcalls.specs.declared.ended.Ended.{Ended}
 use Rattle.seatcalls.specs.declared.ended.Ended.TheVariants.{Free, Kept}
-use Rattle.seatcalls.specs.Endings.{Ends, Settles}
+use Rattle.seatcalls.specs.Endings.{Ends, Settles, ended_acts}
 use Rattle.seatcalls.specs.Guests.{given_acts}
 use Rattle.seatcalls.specs.Sightings.{StandsBehind, Found, Missed, Cleared}
 use Rattle.seatcalls.specs.Visitors.{GuestOf, ClaimedOf, IsFree, Visits}
@@ -110,4 +110,26 @@ ends-settled content room directory place first steps looks most_steps most_look
       Some g,
       subst (λ (made : List Act). Visits made most_steps most_looks old new) (append_assoc first (reclaim old.shape old.number place g ∷ []) (given_acts old.shape old.number place g))
           (visits-more ends.made back few_steps few_looks),
+    )
+
+-- a call that settles, with looks in front of it
+pub settles-looked : {old mid new : GuestOf} (place : ℕ) (first : List Act) (l steps looks most_looks : ℕ) → Visits [] 0 l old mid → Settles place first steps looks mid new → l + looks ≤ most_looks
+    → Settles place first steps most_looks old new
+settles-looked {old = old} {mid = mid} {new = new} place first l steps looks most_looks visits settles few =
+    let claimed = settles.0 in (
+      claimed,
+      subst (λ (z : Shape). Visits (first ++ ended_acts z old.number place claimed) steps most_looks old new) visits.same.1
+          (subst (λ (n : ℕ). Visits (first ++ ended_acts mid.shape n place claimed) steps most_looks old new) visits.same.2
+          (visits-more visits settles.1 (omega arith) few)),
+    )
+
+-- the end of a call that settles, with the acts in front of it
+pub settles-behind : {first : List Act} {s l most_steps most_looks : ℕ} {old mid new : GuestOf} (place steps looks : ℕ) → Visits first s l old mid → Settles place [] steps looks mid new
+    → s + steps ≤ most_steps → l + looks ≤ most_looks → Settles place first most_steps most_looks old new
+settles-behind {first = first} {most_steps = most_steps} {most_looks = most_looks} {old = old} {mid = mid} {new = new} place steps looks visits settles few_steps few_looks =
+    let claimed = settles.0 in (
+      claimed,
+      subst (λ (z : Shape). Visits (first ++ ended_acts z old.number place claimed) most_steps most_looks old new) visits.same.1
+          (subst (λ (n : ℕ). Visits (first ++ ended_acts mid.shape n place claimed) most_steps most_looks old new) visits.same.2
+          (visits-more visits settles.1 few_steps few_looks)),
     )

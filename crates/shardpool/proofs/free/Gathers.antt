@@ -13,6 +13,8 @@ use Rattle.keybits.specs.declared.place.Place.{Place}
 use Rattle.keybits.specs.Places.{page_of, number_of}
 use Rattle.keybits.specs.Keys.{place_of}
 use Rattle.keybits.specs.Rows.{set_places}
+use Rattle.steplaws.specs.Facts.{guest_home}
+use Rattle.steplaws.specs.StepLaws.{row_of}
 use Rattle.freelists.specs.Shards.{place_numbered}
 use denote.RawPtr.{Ptr}
 use Rattle.freelists.specs.Queues.{FreePlaces, AreFree, IsAway}
@@ -28,7 +30,7 @@ use Rattle.poolsteps.specs.declared.view.View.{View}
 use Rattle.poolsteps.specs.Views.{head_record, the_lane, status_of, known_of}
 use Rattle.poolsteps.specs.ViewLaws.{references_made}
 use Rattle.poolsteps.specs.Told.{RowSteps, references_seen}
-use Rattle.poolsteps.specs.Returned.{Gathers, gathered_record}
+use Rattle.poolsteps.specs.Returned.{Gathers, NoneGiven, gathered_record}
 use Rattle.seatcalls.specs.Carried.{Carries, AreEmptied}
 use Rattle.seatcalls.specs.Left.{held_after, has_retired}
 use Rattle.seatcalls.specs.Taken.{Went}
@@ -53,6 +55,7 @@ use Rattle.shardpool.proofs.frame.LaneFrames.{passes-refs, passes-carries, onlya
 use Rattle.shardpool.proofs.frame.KeptPlaces.{seat-passes, last_pushed-same, spot-passes, still-with, resting-passes}
 use Rattle.shardpool.proofs.frame.SeenHistories.{made-passes}
 use Rattle.shardpool.proofs.frame.Standing.{sees-on}
+use Rattle.shardpool.proofs.free.EmptiedRows.{given-taken}
 use Rattle.shardpool.proofs.free.Stores.{Spared, SparesFree, IsApart, stores-pass, stores-apart, stores-kept, apart-away, numbered}
 use Rattle.shardpool.proofs.free.Rights.{rights-set}
 use Rattle.shardpool.proofs.free.Chains.{rest-full, uncollected, known-with, taken-deeds, taken-cells}
@@ -68,6 +71,7 @@ pub record Gathered (z : Shape) (row word : ℕ) (v w : View) : Type 0 where
   pub cells : (p : ℕ) → has (set_places (the_lane v).lane row word) p ≡ false → known_of (the_lane w) p ≡ known_of (the_lane v) p
   pub chain : (the_lane w).chain ≡ (the_lane v).chain
   pub rests : (p : ℕ) → has (set_places (the_lane v).lane row word) p ≡ true → IsResting z w p
+  pub given : (p : ℕ) → guest_home z v.seen (the_lane v).lane p ≡ true → row_of p ≡ row → has (set_places (the_lane v).lane row word) p ≡ true
   pub steps : w.steps ≡ v.steps + 1
   pub looks : w.looks ≡ v.looks
 
@@ -78,6 +82,10 @@ either-acts lane row word = dite (ℕ_discrete word 0)
     (λ (some : word ≢ 0). inr (ap (λ (b : Bool). cond b [] (acts.Collect lane (set_places lane row word) ∷ [])) (ne_eqb word 0 some)))
 
 module _ {S : Type 0} {z : Shape} (row : ℕ) {word : ℕ} {a b : Me S View} (gathers : Gathers z row a word b) where
+  pub gathered-held : b.1 ≡ a.1
+  gathered-held = dite (ℕ_discrete word 0) (λ (zero : word ≡ 0). (gathers.0 zero).held) (λ (some : word ≢ 0). (gathers.1 some).2.held)
+
+module _ {S : Type 0} {z : Shape} (row : ℕ) {word : ℕ} {a b : Me S View} (gathers : Gathers z row a word b) (left : NoneGiven z b.0.seen (the_lane a.0).lane row) where
   abbrev own : ℕ
   own = (the_lane a.0).lane
 
@@ -97,6 +105,8 @@ module _ {S : Type 0} {z : Shape} (row : ℕ) {word : ℕ} {a b : Me S View} (ga
           cells = λ p off. ap (λ (r : LaneRecord). known_of r p) now;
           chain = ap (λ (r : LaneRecord). r.chain) now;
           rests = λ p in_it. let nowhere : false ≡ true = sym (ap (λ (ps : List ℕ). has ps p) (set-none own row word zero)) ∙ in_it in absurd (cc nowhere);
+          given = given-taken z a.0.seen none.goes.between [] own row places (subst (IsLegal z) none.goes.seen none.goes.legal) none.goes.others (inl refl)
+              (subst (λ (h : List Act). NoneGiven z h own row) none.goes.seen left);
           steps = none.steps;
           looks = none.looks;
         }
@@ -147,12 +157,11 @@ module _ {S : Type 0} {z : Shape} (row : ℕ) {word : ℕ} {a b : Me S View} (ga
       cells = λ p off. ap (λ (r : LaneRecord). known_of r p) record-after ∙ taken-cells (the_lane a.0) places stored p off;
       chain = ap (λ (r : LaneRecord). r.chain) record-after;
       rests = some-rests;
+      given = given-taken z a.0.seen steps-some.goes.between (act ∷ []) own row places (subst (IsLegal z) steps-some.goes.seen steps-some.goes.legal) steps-some.goes.others
+          (inr refl) (subst (λ (h : List Act). NoneGiven z h own row) steps-some.goes.seen left);
       steps = steps-some.steps;
       looks = steps-some.looks;
     }
-
-  pub gathered-held : b.1 ≡ a.1
-  gathered-held = dite (ℕ_discrete word 0) (λ (zero : word ≡ 0). (gathers.0 zero).held) (λ (some : word ≢ 0). (gathers.1 some).2.held)
 
   pub gathered : Gathered z row word a.0 b.0
   gathered = dite (ℕ_discrete word 0) none-gathered some-gathered
@@ -296,6 +305,7 @@ module _ {T : Type 0} {content : T → List ℕ} {room : T → ℕ} {v w : View}
         pages = refl;
       });
       gathered = λ p in_it. gathered-place p (ap (λ (l : ℕ). has (set_places l row word) p) (sym fits.seat.number_is) ∙ in_it);
+      given = subst (λ (l : ℕ). (p : ℕ) → guest_home s.shape v.seen l p ≡ true → row_of p ≡ row → has (set_places l row word) p ≡ true) (sym fits.seat.number_is) g.given;
       steps = g.steps;
       looks = g.looks;
     }

@@ -1,6 +1,6 @@
 -- A filling that is dropped: the call that publishes it, and what its lane may do behind that.
 use Rattle.std.proofs.lemmas.Bool.{and_parts}
-use Rattle.std.proofs.Common.{◌≡◌, ℕ, ◌≤◌, Bool, true, false, List, [], ◌∷◌, ◌++◌, refl, sym, ap, ◌∙◌, subst, arith}
+use Rattle.std.proofs.Common.{◌≡◌, ℕ, ◌≤◌, Bool, true, false, List, [], ◌∷◌, ◌++◌, sym, ap, ◌∙◌, subst, arith}
 use denote.RawPtr.{Ptr}
 use Rattle.atomic_table.specs.Table.{Me}
 use Rattle.keybits.specs.declared.shape.Shape.{Shape}
@@ -15,29 +15,17 @@ use Rattle.poolsteps.specs.declared.grid.Spot.{Spot}
 use Rattle.poolsteps.specs.Grids.{IsSpot}
 use Rattle.poolsteps.specs.Layout.{slot_start}
 use Rattle.poolsteps.specs.Views.{head_record, the_lane, pushed_in, known_of}
-use Rattle.poolsteps.specs.Told.{GoesOn, MayPublish, Publishes, Sees}
-use Rattle.seatcalls.specs.Carried.{IsElsewhere, Carries}
+use Rattle.poolsteps.specs.Told.{MayPublish, Publishes, Sees}
+use Rattle.seatcalls.specs.Carried.{Carries}
 use Rattle.shardpool.specs.declared.pool.LaneState.{LaneState}
 use Rattle.shardpool.specs.Finishes.{IsKeeper}
 use Rattle.shardpool.specs.Discards.{PublishesObject}
-use Rattle.seatcalls.proofs.parts.Moves.{carries-more}
+use Rattle.seatcalls.proofs.parts.Moves.{carries-more, carries-sees}
 use Rattle.shardpool.proofs.parts.Filling.{publish-called, room-published}
 
 -- moves at the place where a key is
 pub carries-at : {S : Type 0} {z : Shape} {here place n : ℕ} {a b : Me S View} → here ≡ place → Carries z here n a b → Carries z place n a b
 carries-at {z = z} {n = n} {a = a} {b = b} at carries = subst (λ (p : ℕ). Carries z p n a b) at carries
-
--- a look moves no share
-pub carries-sees : {S : Type 0} {z : Shape} {a b : Me S View} (place : ℕ) → Sees z a b → Carries z place 1 a b
-carries-sees {z = z} {a = a} {b = b} place sees =
-    let now : the_lane b.0 ≡ the_lane a.0 = ap head_record sees.goes.lanes in record {
-      goes = subst (λ (r : LaneRecord). GoesOn z a.0 b.0 [] [] r) (sym now) sees.goes;
-      elsewhere = subst (λ (r : LaneRecord). IsElsewhere place (the_lane a.0) r) (sym now)
-          (record { lane = refl; mine = refl; under = refl; pushed = refl; chain = refl; deeds = λ p number other. refl; cells = λ p other. refl });
-      held = sees.held;
-      steps = sees.steps;
-      looked = sees.looks;
-    }
 
 -- what may be published is a key of the pool
 pub is-key : {z : Shape} {v : View} {key : ℕ} → MayPublish z v key → is_key z key ≡ true

@@ -83,8 +83,10 @@ impl Life {
 /// key's generation, and PRESENT.
 #[inline]
 pub fn is_hit(key: u64, word: u64) -> bool {
-    let life = Life::of_word(word);
-    life.generation == generation_of(key) && life.state == State::Present
+    // One comparison, once compiled: the key's word with any count is no more than that much greater.
+    let present = claimable(generation_of(key)) - MARK_BIT;
+    let counted = word.wrapping_sub(present);
+    counted < ONE_GENERATION && counted % ONE_COUNT == 0
 }
 
 /// Whether a place with this lifecycle word is PRESENT: its object can be got.

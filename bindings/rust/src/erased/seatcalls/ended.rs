@@ -17,6 +17,12 @@ pub enum Ended {
     Kept(Claimed),
 }
 
+/// A guest behind a LEAVE, and the word that this found.
+pub(crate) struct Parted {
+    pub(crate) spot: Spot,
+    pub(crate) found: u64,
+}
+
 /// What a guest has behind a LEAVE that found this word. Where the word says that it left (g, MARKED, 0), it claims g. One
 /// step at most, and two looks.
 #[inline(always)]

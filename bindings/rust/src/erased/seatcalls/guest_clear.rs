@@ -18,23 +18,39 @@ impl Guest {
         let Some(spot) = grid.find_key(key) else {
             return (false, Ended::Free(self));
         };
+        match self.clear_at_once(grid, spot, key) {
+            Ok(answer) => answer,
+            Err(guest) => clear_by_steps(grid, guest, spot, key),
+        }
+    }
+
+    /// A clear of a key whose steps are one operation.
+    ///
+    /// # Errors
+    ///
+    /// The guest, where another caller stepped on the key's word meanwhile: then it looked, and did nothing.
+    #[inline(always)]
+    fn clear_at_once(self, grid: &Grid<'_>, spot: Spot, key: u64) -> Result<(bool, Ended), Guest> {
         let Guest {} = self;
         let generation = generation_of(key);
         let found = grid.sweep(spot, key);
         if found == unreferred(generation) {
             let claimed = keep(grid, spot, generation);
-            return (true, Ended::Kept(claimed));
+            return Ok((true, Ended::Kept(claimed)));
         }
         if is_hit(key, found) {
-            if grid.strike(spot, key, found) == found {
-                return (true, Ended::Free(Guest {}));
+            let struck = grid.strike(spot, key, found);
+            if struck == found {
+                let guest = Guest {};
+                return Ok((true, Ended::Free(guest)));
             }
-            return clear_by_steps(grid, Guest {}, spot, key);
+            return Err(Guest {});
         }
         if owes_claim(found.wrapping_add(ONE_COUNT)) {
-            return clear_by_steps(grid, Guest {}, spot, key);
+            return Err(Guest {});
         }
-        (false, Ended::Free(Guest {}))
+        let guest = Guest {};
+        Ok((false, Ended::Free(guest)))
     }
 }
 

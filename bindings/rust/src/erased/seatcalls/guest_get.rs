@@ -5,8 +5,8 @@
 use crate::word::Grid;
 
 use crate::erased::keybits::is_hit;
-use crate::erased::poolsteps::Purpose;
-use crate::erased::seatcalls::ended::{end, Ended};
+use crate::erased::poolsteps::{Purpose, Spot};
+use crate::erased::seatcalls::ended::{end, Ended, Parted};
 use crate::erased::seatcalls::guests::Guest;
 use crate::erased::seatcalls::references::GuestRef;
 
@@ -17,6 +17,15 @@ impl Guest {
         let Some(spot) = grid.find_key(key) else {
             return Err(Ended::Free(self));
         };
+        match self.enter(grid, spot, key) {
+            Ok(reference) => Ok(reference),
+            Err(Parted { spot, found }) => Err(end(grid, spot, found)),
+        }
+    }
+
+    /// ENTER of a get of a key, and the LEAVE of one that misses.
+    #[inline(always)]
+    fn enter(self, grid: &Grid<'_>, spot: Spot, key: u64) -> Result<GuestRef, Parted> {
         let Guest {} = self;
         let found = grid.enter(spot, key, Purpose::ToGet);
         if is_hit(key, found) {
@@ -26,6 +35,6 @@ impl Guest {
             });
         }
         let left = grid.leave(spot, key);
-        Err(end(grid, spot, left))
+        Err(Parted { spot, found: left })
     }
 }

@@ -2,11 +2,11 @@
 use Rattle.std.proofs.Common.{sym, subst, refl}
 use Rattle.keybits.specs.Steps.{Changes}
 use Rattle.keybits.specs.declared.step.Kind.{Kind}
-use Rattle.steplaws.specs.StepLaws.{HasRoom}
+use Rattle.steplaws.specs.StepLaws.{CountFits}
 use Rattle.coresteps.proofs.steps.word_after.Goals as goal
 
 pub entered-requires : goal.entered-requires
-entered-requires c = subst (λ (k : Kind). HasRoom k c.args.before) c.in-Enter.is c.requires.room
+entered-requires c = subst (λ (k : Kind). CountFits k c.args.before) c.in-Enter.is c.requires.room
 
 pub left-requires : goal.left-requires
 left-requires c = (subst (λ (k : Kind). Changes c.args.last_generation k c.args.before c.requires.changes.0) c.in-Leave.is c.requires.changes.1).0
@@ -15,7 +15,7 @@ pub published-requires-clause-idle : goal.published-requires-clause-idle
 published-requires-clause-idle c = (subst (λ (k : Kind). Changes c.args.last_generation k c.args.before c.requires.changes.0) c.in-Publish.is c.requires.changes.1).0
 
 pub published-requires-clause-count : goal.published-requires-clause-count
-published-requires-clause-count c = λ _. subst (λ (k : Kind). HasRoom k c.args.before) c.in-Publish.is c.requires.room
+published-requires-clause-count c = λ _. subst (λ (k : Kind). CountFits k c.args.before) c.in-Publish.is c.requires.room
 
 pub marked-requires-clause-open : goal.marked-requires-clause-open
 marked-requires-clause-open c = (subst (λ (k : Kind). Changes c.args.last_generation k c.args.before c.requires.changes.0) c.in-Mark.is c.requires.changes.1).0

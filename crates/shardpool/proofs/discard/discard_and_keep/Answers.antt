@@ -7,13 +7,13 @@ use Rattle.poolsteps.specs.Spot.{Spot as CellSpot}
 use Rattle.poolsteps.specs.Layout.{spots_at}
 use Rattle.poolsteps.specs.Views.{head_record, the_lane, status_of}
 use Rattle.seatcalls.specs.Called.{StandsAt}
-use Rattle.seatcalls.proofs.parts.Moves.{carries-more}
+use Rattle.seatcalls.proofs.parts.Moves.{carries-more, carries-sees}
 use Rattle.seatcalls.proofs.parts.Standing.{spot-own, publish-place}
 use Rattle.shardpool.specs.Stores.{Keeps}
 use Rattle.shardpool.proofs.calls.Ends.{keeps-act}
 use Rattle.shardpool.proofs.parts.AtOnce.{clears-most}
 use Rattle.shardpool.proofs.parts.Filling.{still-may}
-use Rattle.shardpool.proofs.parts.Discarding.{is-key, carries-at, carries-sees, published-at, published-behind, keeper-behind, spot-here}
+use Rattle.shardpool.proofs.parts.Discarding.{is-key, carries-at, published-at, published-behind, keeper-behind, spot-here}
 use Rattle.shardpool.proofs.discard.discard_and_keep.Goals as goal
 
 pub spread_cell-requires : goal.spread_cell-requires

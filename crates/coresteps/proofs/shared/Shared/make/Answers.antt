@@ -2,7 +2,7 @@
 use Rattle.std.proofs.Common.{◌≡◌, ℕ, ◌++◌, Option, sym, ◌∙◌, subst, arith}
 use Rattle.keybits.specs.Steps.{Changes}
 use Rattle.steplaws.specs.Facts.{Words, value_of}
-use Rattle.steplaws.specs.StepLaws.{HasRoom}
+use Rattle.steplaws.specs.StepLaws.{CountFits}
 use Rattle.seqpool.specs.declared.act.Act.{Act}
 use Rattle.seqpool.specs.Pool.{IsLegal}
 use Rattle.traces.specs.Books.{act_list}
@@ -34,7 +34,7 @@ word_after-after-requires-clause-room c =
     let s = step_exists z r.0 c.args.number (aim_of c.args.aim) r.1.kept.holds c.requires.lane r.3 in
     let at : c.load-before.result ≡ value_of r.0.words c.args.aim.word
     = c.load-before.ensures r.0.words (subst (λ (words : Words). IsTable z words c.args.self.now.words) (sym r.1.words) r.1.table) in
-    subst (HasRoom c.args.aim.kind) (sym at) s.3
+    subst (CountFits c.args.aim.kind) (sym at) s.3
 
 pub word_after-after-requires-clause-claim : goal.word_after-after-requires-clause-claim
 word_after-after-requires-clause-claim c = λ generation kind found.

@@ -3,7 +3,7 @@ use Rattle.std.proofs.lemmas.Bool.{and_from, lt-ltb}
 use Rattle.keybits.specs.declared.shape.Shape.{Shape}
 use Rattle.poolsteps.specs.Layout.{bits_index, has_row, row_count, spots_at}
 use Rattle.poolsteps.specs.Views.{the_lane}
-use Rattle.poolsteps.specs.Returned.{Gathers}
+use Rattle.poolsteps.specs.Returned.{EmptiesRow}
 use Rattle.poolsteps.proofs.Making.{bits-allows}
 use Rattle.poolsteps.proofs.BitSteps.{gather-makes}
 use Rattle.poolsteps.proofs.grid.Grid.gather_row_as.Goals as goal
@@ -26,7 +26,7 @@ swap-requires g c =
       asked.hand.0,
       rw (grid.sized) c.bits_of-word.ensures.inside,
       rw (asked.aim.0, asked.aim.1, word, grid.board_is)
-          (bits-allows content room spots z grid.table.shared.table_id.slots hand.id hand.me asked.hand.1 lane row inside (λ n. 0) (Gathers z row hand.me)
+          (bits-allows content room spots z grid.table.shared.table_id.slots hand.id hand.me asked.hand.1 lane row inside (λ n. 0) (EmptiesRow z row hand.me)
           (λ words w slots point at small. gather-makes content room spots z words w slots point hand.me at row below)),
     )
 

@@ -89,6 +89,7 @@ returns-clause-gathers g c =
     sym (append-nil was.done) ∙ (ap (λ (l : List ℕ). was.done ++ l) (sym none) ∙ (was.split ∙ ap (λ (n : ℕ). set_places n c.args.row word) number)) in record {
       word = word;
       counts = sym (ap length all) ∙ was.counts;
+      given = row.given;
       brings = subst (λ (both : List Act × List ℕ). Brings both.0 both.1 old c.loop-word.lane) (λ i. (append-nil (gather_acts old.number c.args.row word) i, all i))
           (brings-more row.brings was.brings);
       steps = was.steps ∙ row.steps;

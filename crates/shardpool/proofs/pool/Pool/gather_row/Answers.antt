@@ -1,8 +1,9 @@
 -- The places of the row are with the lane, and what it keeps stays as it is.
-use Rattle.std.proofs.Common.{◌<◌, sym, ◌∙◌, subst}
+use Rattle.std.proofs.Common.{◌<◌, ℕ, sym, ◌∙◌, subst}
 use Rattle.keybits.specs.declared.shape.Shape.{Shape}
 use Rattle.poolsteps.specs.Layout.{row_count}
-use Rattle.poolsteps.specs.Returned.{Gathers}
+use Rattle.poolsteps.specs.Returned.{Gathers, NoneGiven}
+use Rattle.poolsteps.specs.Views.{the_lane}
 use Rattle.shardpool.specs.Tokens.{PoolOf, LaneOf}
 use Rattle.shardpool.specs.Lanes.{Made}
 use Rattle.shardpool.specs.Gathers.{GathersRow}
@@ -23,8 +24,11 @@ gather_row-requires-clause-row g c = subst (λ (p : PoolOf). c.args.row < row_co
 
 -- what the GATHER tells, by the lane's shape
 told : (g : Over) (c : After-gather_row g) → Gathered c.lane.inside.state.shape c.args.row c.gather_row.result c.lane.inside.hand.me.0 c.gather_row.new.hand.me.0
-told g c = gathered c.args.row (subst (λ (z : Shape). Gathers z c.args.row c.lane.inside.hand.me c.gather_row.result c.gather_row.new.hand.me)
-    (same-shape c.lane.view_is c.requires.owns.1 c.self.view_is) c.gather_row.ensures.gathers)
+told g c =
+    let same = same-shape c.lane.view_is c.requires.owns.1 c.self.view_is in
+    gathered c.args.row (subst (λ (z : Shape). Gathers z c.args.row c.lane.inside.hand.me c.gather_row.result c.gather_row.new.hand.me) same c.gather_row.ensures.gathers)
+    (subst (λ (z : Shape). NoneGiven z c.gather_row.new.hand.me.0.seen (the_lane c.lane.inside.hand.me.0).lane c.args.row) same
+    (subst (λ (l : ℕ). NoneGiven c.self.inside.grid.shape c.gather_row.new.hand.me.0.seen l c.args.row) c.lane.invariant.1.seat.number_is c.gather_row.ensures.none_left))
 
 pub invariant_of-lane : goal.invariant_of-lane
 invariant_of-lane g c = (gathered-held c.args.row c.gather_row.ensures.gathers ∙ c.lane.invariant.0, gathered-fits c.lane.invariant.1 (told g (goal.at.invariant_of-lane g c).After-gather_row))
