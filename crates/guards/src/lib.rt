@@ -16,6 +16,7 @@ mod runs;
 mod seats;
 mod several;
 mod told;
+mod visitors;
 
 pub use closes::{Unclosed, close_rows};
 pub use closures::{create_with, with};
@@ -30,3 +31,4 @@ pub use runs::{Unrun, run_lanes};
 pub use seats::Seat;
 pub use several::{with_four, with_three, with_two};
 pub use told::Told;
+pub use visitors::{Visit, Visitor};

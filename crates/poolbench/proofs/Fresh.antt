@@ -1,5 +1,5 @@
 -- The lanes of a pool that was just opened: none has a reference, and they are all lanes.
-use Rattle.std.proofs.Common.{◌≡◌, ℕ, zero, suc, ◌+◌, ◌<◌, List, [], ◌∷◌, ◌++◌, length, slice_get, Some, refl, sym, ap, ◌∙◌, subst, arith}
+use Rattle.std.proofs.Common.{◌≡◌, ℕ, zero, suc, ◌+◌, ◌<◌, List, [], ◌∷◌, ◌++◌, length, slice_get, Option, Some, None, IfSome, option_to_list, refl, sym, ap, ◌∙◌, subst, arith}
 use Rattle.poolsteps.specs.Views.{the_lane}
 use Rattle.shardpool.specs.Tokens.{PoolOf, LaneOf}
 use Rattle.seatcalls.specs.Left.{held_after}
@@ -20,6 +20,11 @@ fresh-head lane lanes fresh = fresh 0 lane refl
 
 pub fresh-tail : {pool : PoolOf} (lane : LaneOf) (lanes : List LaneOf) → AreFresh pool (lane ∷ lanes) → AreFresh pool lanes
 fresh-tail lane lanes fresh at other is = fresh (suc at) other is
+
+-- what comes first of them, if anything does, is a lane of the pool
+pub fresh-next : {pool : PoolOf} (first : Option LaneOf) (rest : List LaneOf) → AreFresh pool (option_to_list first ++ rest) → IfSome first (Owns pool)
+fresh-next None rest fresh = tt
+fresh-next (Some lane) rest fresh = (fresh-head lane rest fresh).0
 
 -- each is a lane of the pool, and they are numbered from this number on
 abbrev AreNumbered : PoolOf → ℕ → List LaneOf → Type 0

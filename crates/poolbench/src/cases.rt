@@ -1,5 +1,6 @@
 //! The cases, and the plans that words name.
 use crate::rounds::{Deed, Own, Solo, Whose};
+use crate::visits::Visit;
 use keybits::{MOST_LANES, NARROW_LANES};
 
 /// What is done in each round.
@@ -18,7 +19,7 @@ pub enum Case {
 }
 
 /// The cases by name.
-pub const CASES: [(&str, Case); 26] = [
+pub const CASES: [(&str, Case); 30] = [
     ("bare", Case::Solo(Solo::Bare)),
     ("alu", Case::Solo(Solo::Alu)),
     ("get-own", Case::Pool(Deed::Get(Whose::Own))),
@@ -45,6 +46,10 @@ pub const CASES: [(&str, Case); 26] = [
     ("get-large", Case::Solo(Solo::Large)),
     ("clone", Case::Solo(Solo::Clone)),
     ("look-many", Case::Solo(Solo::Look)),
+    ("guest-many", Case::Solo(Solo::Guest(Visit::Many))),
+    ("guest-two", Case::Solo(Solo::Guest(Visit::Two))),
+    ("guest-cycle", Case::Solo(Solo::Guest(Visit::Cycle))),
+    ("guest-cycle-two", Case::Solo(Solo::Guest(Visit::CycleTwo))),
 ];
 
 /// The name of the case that fills a pool, which is done where it is named alone, as it takes longest.

@@ -12,6 +12,7 @@ mod plans;
 mod pools;
 mod rounds;
 mod stores;
+mod visits;
 
 use crate::cases::{CASES, Case, Plan};
 use crate::fault::Fault;

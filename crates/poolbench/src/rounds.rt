@@ -7,6 +7,7 @@ use crate::owners::read_clones;
 use crate::passes::Ways;
 use crate::pools::{PLACES, Worker};
 use crate::stores::look_many;
+use crate::visits::Visit;
 use keybits::Shape;
 use std::alloc::Global;
 use std::sync::Wait;
@@ -35,6 +36,8 @@ pub enum Solo {
     Clone,
     /// Each of 16 objects is read in turn, by a lane that lies in a store and is had for the one call.
     Look,
+    /// A guest does it.
+    Guest(Visit),
 }
 
 /// What is done with objects of the lane's own.
@@ -95,7 +98,7 @@ impl Solo {
             Solo::Bare | Solo::Alu => 0,
             Solo::Open | Solo::Large => LARGEST.lanes,
             Solo::Page => ONE_LANE.lanes,
-            Solo::Clone | Solo::Look => 1,
+            Solo::Clone | Solo::Look | Solo::Guest(_) => 1,
         }
     }
 
@@ -109,6 +112,7 @@ impl Solo {
             Solo::Large => read_large(alloc, rounds),
             Solo::Clone => read_clones(alloc, rounds),
             Solo::Look => look_many(alloc, rounds),
+            Solo::Guest(visit) => visit.run(alloc, rounds),
         }
     }
 }

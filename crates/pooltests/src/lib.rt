@@ -6,11 +6,15 @@ pub mod contents;
 #[cfg(test)]
 mod test_calls;
 #[cfg(test)]
+mod test_claimed;
+#[cfg(test)]
 mod test_discards;
 #[cfg(test)]
 mod test_drops;
 #[cfg(test)]
 mod test_guards;
+#[cfg(test)]
+mod test_guests;
 #[cfg(test)]
 mod test_halts;
 #[cfg(test)]
