@@ -8,7 +8,7 @@ use Rattle.streams.proofs.SafeLines.{length-cut, length-decimal, printable-bytes
 use Rattle.commandline.specs.MistakeTexts.{before_of, after_of, entry_told, where_of, mistake_told, mistake_text}
 use Rattle.commandline.specs.declared.mistakes.Mistake.{Mistake}
 use Rattle.commandline.specs.declared.mistakes.Reason.{Reason}
-use Rattle.commandline.specs.declared.mistakes.Reason.TheVariants.{NoTurns, SeedAlone, TurnsAlone, ScheduleAndMore, BadSchedule, BadFile, InputTwice, TwoTexts, BadSeed, BadTurns, BadStop, BadTries, BadNumber, BadHexadecimal, BadFrom, BadCount, NoText, Missing}
+use Rattle.commandline.specs.declared.mistakes.Reason.TheVariants.{NoTurns, SeedAlone, TurnsAlone, ScheduleAndMore, BadSchedule, BadFile, InputTwice, TwoTexts, BadSeed, BadTurns, BadStop, BadTries, BadMost, BadNumber, BadHexadecimal, BadFrom, BadCount, NoText, Missing}
 
 four : (one two three last : List ℕ) → length (one ++ two ++ three ++ last) ≡ length one + length two + length three + length last
 four one two three last = omega (arith, length-append (one ++ two ++ three) last, length-append (one ++ two) three, length-append one two)
@@ -26,6 +26,7 @@ before-short BadSeed = leb-true (length (before_of BadSeed)) 200 refl
 before-short BadTurns = leb-true (length (before_of BadTurns)) 200 refl
 before-short BadStop = leb-true (length (before_of BadStop)) 200 refl
 before-short BadTries = leb-true (length (before_of BadTries)) 200 refl
+before-short BadMost = leb-true (length (before_of BadMost)) 200 refl
 before-short BadNumber = leb-true (length (before_of BadNumber)) 200 refl
 before-short BadHexadecimal = leb-true (length (before_of BadHexadecimal)) 200 refl
 before-short BadFrom = leb-true (length (before_of BadFrom)) 200 refl
@@ -46,6 +47,7 @@ after-short BadSeed = leb-true (length (after_of BadSeed)) 200 refl
 after-short BadTurns = leb-true (length (after_of BadTurns)) 200 refl
 after-short BadStop = leb-true (length (after_of BadStop)) 200 refl
 after-short BadTries = leb-true (length (after_of BadTries)) 200 refl
+after-short BadMost = leb-true (length (after_of BadMost)) 200 refl
 after-short BadNumber = leb-true (length (after_of BadNumber)) 200 refl
 after-short BadHexadecimal = leb-true (length (after_of BadHexadecimal)) 200 refl
 after-short BadFrom = leb-true (length (after_of BadFrom)) 200 refl
@@ -81,6 +83,7 @@ where-short BadSeed found = omega arith
 where-short BadTurns found = omega arith
 where-short BadStop found = omega arith
 where-short BadTries found = omega arith
+where-short BadMost found = omega arith
 where-short BadNumber found = omega arith
 where-short BadHexadecimal found = omega arith
 where-short BadFrom found = omega arith

@@ -2,18 +2,18 @@
 use Rattle.std.proofs.Common.{◌≡◌, ◌∙◌, ◌&&◌, ℕ, Bool, true, false, List, Option, Some, None, IfOk, IfErr, codes, refl, sym, ap, subst, option_and_then}
 use Rattle.std.proofs.lemmas.Result.{IfOk-weaker, IfErr-weaker}
 use Rattle.clap.specs.Words.{Row, first_of}
-use Rattle.commandline.specs.Readings.{flag_of, key_number, long_number, turn_count, try_count, schedule_file, are_both_input, AreTries, AreTurns, IsStop}
+use Rattle.commandline.specs.Readings.{flag_of, key_number, long_number, turn_count, try_count, schedule_file, are_both_input, AreTries, IsMost, AreTurns, IsStop}
 use Rattle.commandline.specs.CommandLines.{AreMatchesOf, HasTurns, is_flagged, IsTaskOfNone}
-use Rattle.commandline.specs.Mistakes.{Wrong, IsWrong, first_wrong, unless_read, wrong_file, wrong_if, wrong_schedule, wrong_turns, wrong_stop, wrong_tries, wrong_number, wrong_given, number_reason, said_by, Tells, RefusesMatches, Refuses, AsksFor, wants_explanation}
+use Rattle.commandline.specs.Mistakes.{Wrong, IsWrong, first_wrong, unless_read, wrong_file, wrong_if, wrong_schedule, wrong_turns, wrong_stop, wrong_tries, wrong_most, wrong_number, wrong_given, number_reason, said_by, Tells, RefusesMatches, Refuses, AsksFor, wants_explanation}
 use Rattle.commandline.specs.declared.fault.TaskFault.{TaskFault}
 use Rattle.commandline.specs.declared.fault.TaskFault.TheVariants as faults
 use Rattle.commandline.specs.declared.requests.Request.{Request}
 use Rattle.commandline.specs.declared.mistakes.Reason.{Reason}
-use Rattle.commandline.specs.declared.mistakes.Reason.TheVariants.{BadSchedule, BadSeed, BadTurns, BadStop, BadTries, InputTwice, TwoTexts}
+use Rattle.commandline.specs.declared.mistakes.Reason.TheVariants.{BadSchedule, BadSeed, BadTurns, BadStop, BadTries, BadMost, InputTwice, TwoTexts}
 use Rattle.schedules.specs.Schedules.{schedule_of, stop_of}
 use Rattle.commandline.specs.declared.tasks.Stop.{Stop}
 use Rattle.commandline.specs.declared.tasks.Task.{Task}
-use Rattle.commandline.specs.declared.tasks.Task.TheVariants.{Replay, Schedule, Shorten, Check, Run, Key, Word}
+use Rattle.commandline.specs.declared.tasks.Task.TheVariants.{Replay, Schedule, Shorten, Outcomes, Check, Run, Key, Word}
 use Rattle.commandline.specs.declared.tasks.Turns.{Turns}
 use Rattle.commandline.specs.declared.tasks.Turns.TheVariants.{Listed, Drawn, InFile}
 
@@ -72,6 +72,10 @@ tries-right None (Some tries) are = absurd are
 tries-right (Some text) None are = absurd are
 tries-right (Some text) (Some tries) are = read-right (try_count text) tries BadTries text are
 
+most-right : (text : Option (List ℕ)) (most : ℕ) → IsMost text most → wrong_most text ≡ None
+most-right None most is = refl
+most-right (Some text) most is = read-right (try_count text) most BadMost text is
+
 pub file-right : (text : Option (List ℕ)) (file : List ℕ) → text ≡ Some file → wrong_file text ≡ None
 file-right text file is = ap wrong_file is
 
@@ -114,6 +118,8 @@ matches-none name rows wrong (Schedule file turns stop) is (named, right, printe
 matches-none name rows wrong (Shorten file turns stop search) is (named, right, word, are, decoded, scripts) =
     none-wrong _ wrong (both _ _ (given-right rows _ turns stop right)
     (both _ _ (file-right (first_of (codes "until") rows) _ word) (tries-right (first_of (codes "tries") rows) search.tries are))) (is.shorten named)
+matches-none name rows wrong (Outcomes file most count) is (named, right, number, flag) =
+    none-wrong _ wrong (both _ _ (file-right (first_of (codes "file") rows) _ right) (most-right (first_of (codes "most") rows) most number)) (is.outcomes named)
 matches-none name rows wrong (Check file) is (named, right) = none-wrong _ wrong (file-right (first_of (codes "acts") rows) _ right) (is.check named)
 matches-none name rows wrong (Run file) is (named, right) = none-wrong _ wrong (file-right (first_of (codes "file") rows) _ right) (is.run named)
 matches-none name rows wrong (Key number) is (named, flag, right) = none-wrong _ wrong (number-right (flag_of (first_of (codes "hex") rows)) (first_of (codes "number") rows) number right) (is.key named)

@@ -5,9 +5,9 @@ use Rattle.clap.specs.Words.{App, Row, Rule, first_of, new_app, new_rule, subcom
 use Rattle.clap.specs.declared.builder.action.ArgAction.TheVariants.{SetTrue}
 use Rattle.commandline.specs.declared.tasks.Stop.{Stop}
 use Rattle.commandline.specs.declared.tasks.Task.{Task}
-use Rattle.commandline.specs.declared.tasks.Task.TheVariants.{Replay, Schedule, Shorten, Check, Run, Key, Word}
+use Rattle.commandline.specs.declared.tasks.Task.TheVariants.{Replay, Schedule, Shorten, Outcomes, Check, Run, Key, Word}
 use Rattle.commandline.specs.declared.tasks.Turns.{Turns}
-use Rattle.commandline.specs.Readings.{flag_of, key_number, are_both_input, AreTries, AreTurns, IsStop}
+use Rattle.commandline.specs.Readings.{flag_of, key_number, are_both_input, AreTries, IsMost, AreTurns, IsStop}
 
 -- a positional argument with this id, which must be there
 abbrev pub positional : List ℕ → Rule
@@ -43,6 +43,11 @@ shorten_line = line_of (codes "shorten")
     ∷ option_named (codes "turns") ∷ option_named (codes "stop") ∷ option_named (codes "tries") ∷ flag_named (codes "words")
     ∷ flag_named (codes "scripts") ∷ flag_named (codes "progress") ∷ flag_named (codes "explain") ∷ [])
 
+-- the subcommand `outcomes`
+abbrev pub outcomes_line : App
+outcomes_line = line_of (codes "outcomes")
+    (positional (codes "file") ∷ option_named (codes "most") ∷ flag_named (codes "count") ∷ flag_named (codes "explain") ∷ [])
+
 -- the subcommand `check`
 abbrev pub check_line : App
 check_line = line_of (codes "check") (positional (codes "acts") ∷ flag_named (codes "explain") ∷ [])
@@ -67,8 +72,8 @@ program = program_named (codes "poolrun")
 -- the program's command line
 abbrev pub command_line : App
 command_line = with_subcommand
-    (with_subcommand (with_subcommand (with_subcommand (with_subcommand program replay_line.top) shorten_line.top) check_line.top)
-    run_line.top) key_line.top
+    (with_subcommand (with_subcommand (with_subcommand (with_subcommand (with_subcommand program replay_line.top) shorten_line.top)
+    outcomes_line.top) check_line.top) run_line.top) key_line.top
 
 -- the file, the turns and the stop of a replay, by matches
 pub record HasTurns (rows : List Row) (file : List ℕ) (turns : Turns) (stop : Option Stop) : Type 0 where
@@ -95,6 +100,8 @@ AreMatchesOf name rows (Schedule file turns stop) = (name ≡ codes "replay") ×
 AreMatchesOf name rows (Shorten file turns stop search) = (name ≡ codes "shorten") × HasTurns rows (string_bytes file) turns stop
     × (first_of (codes "until") rows ≡ Some (string_bytes search.word)) × AreTries (first_of (codes "tries") rows) search.tries
     × (search.decoded ≡ is_flagged (codes "words") rows) × (search.scripts ≡ is_flagged (codes "scripts") rows)
+AreMatchesOf name rows (Outcomes file most count) = (name ≡ codes "outcomes") × (first_of (codes "file") rows ≡ Some (string_bytes file))
+    × IsMost (first_of (codes "most") rows) most × (count ≡ is_flagged (codes "count") rows)
 AreMatchesOf name rows (Check file) = (name ≡ codes "check") × (first_of (codes "acts") rows ≡ Some (string_bytes file))
 AreMatchesOf name rows (Run file) = (name ≡ codes "run") × (first_of (codes "file") rows ≡ Some (string_bytes file))
 AreMatchesOf name rows (Key number) = (name ≡ codes "key") × (flag_of (first_of (codes "word") rows) ≡ false)

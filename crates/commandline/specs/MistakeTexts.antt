@@ -4,7 +4,7 @@ use Rattle.schedules.specs.Schedules.{bad_entry}
 use Rattle.streams.specs.Shown.{bytes_text, cut}
 use Rattle.commandline.specs.declared.mistakes.Mistake.{Mistake}
 use Rattle.commandline.specs.declared.mistakes.Reason.{Reason}
-use Rattle.commandline.specs.declared.mistakes.Reason.TheVariants.{NoTurns, SeedAlone, TurnsAlone, ScheduleAndMore, BadSchedule, BadFile, InputTwice, TwoTexts, BadSeed, BadTurns, BadStop, BadTries, BadNumber, BadHexadecimal, BadFrom, BadCount, NoText, Missing}
+use Rattle.commandline.specs.declared.mistakes.Reason.TheVariants.{NoTurns, SeedAlone, TurnsAlone, ScheduleAndMore, BadSchedule, BadFile, InputTwice, TwoTexts, BadSeed, BadTurns, BadStop, BadTries, BadMost, BadNumber, BadHexadecimal, BadFrom, BadCount, NoText, Missing}
 
 -- before the text that the reason is about: the option
 abbrev pub before_of : Reason → List ℕ
@@ -20,6 +20,7 @@ before_of BadSeed = codes "--seed \""
 before_of BadTurns = codes "--turns \""
 before_of BadStop = codes "--stop \""
 before_of BadTries = codes "--tries \""
+before_of BadMost = codes "--most \""
 before_of BadNumber = codes "N \""
 before_of BadHexadecimal = codes "N \""
 before_of BadFrom = codes "--from \""
@@ -41,6 +42,7 @@ after_of BadSeed = codes "\" is no seed: one to twenty decimal digits, at most 1
 after_of BadTurns = codes "\" is no number of turns: one to twenty decimal digits, at most 1000000"
 after_of BadStop = codes "\" is no stop: a lane, a colon and a number of turns, each of one to twenty decimal digits and at most 4294967295"
 after_of BadTries = codes "\" is no number of replays: one to twenty decimal digits, 1 to 18446744073709551615"
+after_of BadMost = codes "\" is no number of states: one to twenty decimal digits, 1 to 18446744073709551615"
 after_of BadNumber = codes "\" is no number: one to twenty decimal digits, at most 18446744073709551615; with --hex hexadecimal digits"
 after_of BadHexadecimal = codes "\" is no hexadecimal number: one to sixteen hexadecimal digits, with or without 0x before them"
 after_of BadFrom = codes "\" is no turn: one to twenty decimal digits, at most 4294967295"

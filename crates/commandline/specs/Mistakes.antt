@@ -7,7 +7,7 @@ use Rattle.commandline.specs.declared.fault.TaskFault.{TaskFault}
 use Rattle.commandline.specs.declared.fault.TaskFault.TheVariants as faults
 use Rattle.commandline.specs.declared.mistakes.Mistake.{Mistake}
 use Rattle.commandline.specs.declared.mistakes.Reason.{Reason}
-use Rattle.commandline.specs.declared.mistakes.Reason.TheVariants.{NoTurns, SeedAlone, TurnsAlone, ScheduleAndMore, BadSchedule, BadFile, InputTwice, TwoTexts, BadSeed, BadTurns, BadStop, BadTries, BadNumber, BadHexadecimal, Missing}
+use Rattle.commandline.specs.declared.mistakes.Reason.TheVariants.{NoTurns, SeedAlone, TurnsAlone, ScheduleAndMore, BadSchedule, BadFile, InputTwice, TwoTexts, BadSeed, BadTurns, BadStop, BadTries, BadMost, BadNumber, BadHexadecimal, Missing}
 use Rattle.commandline.specs.declared.requests.Request.{Request}
 use Rattle.commandline.specs.declared.tasks.Task.{Task}
 use Rattle.schedules.specs.Schedules.{schedule_of, stop_of, joined, joined_schedule}
@@ -88,6 +88,15 @@ abbrev pub wrong_shorten : List Row → Option Wrong
 wrong_shorten rows = first_wrong (wrong_given rows)
     (first_wrong (wrong_file (first_of (codes "until") rows)) (wrong_tries (first_of (codes "tries") rows)))
 
+-- what is wrong with the text of a number of states
+abbrev pub wrong_most : Option (List ℕ) → Option Wrong
+wrong_most None = None
+wrong_most (Some text) = unless_read (try_count text) BadMost text
+
+-- what is wrong with the matches of `outcomes`: with its file, then with its number of states
+abbrev pub wrong_outcomes : List Row → Option Wrong
+wrong_outcomes rows = first_wrong (wrong_file (first_of (codes "file") rows)) (wrong_most (first_of (codes "most") rows))
+
 -- what is wrong with the bytes of a schedule's file
 abbrev pub wrong_listed : List ℕ → Option Wrong
 wrong_listed bytes = unless_read (joined_schedule (joined bytes)) BadFile (joined bytes)
@@ -100,6 +109,7 @@ wrong_key rows = wrong_number (flag_of (first_of (codes "hex") rows)) (first_of 
 pub record IsWrong (name : List ℕ) (rows : List Row) (wrong : Wrong) : Type 0 where
   pub replay : name ≡ codes "replay" → wrong_replay rows ≡ Some wrong
   pub shorten : name ≡ codes "shorten" → wrong_shorten rows ≡ Some wrong
+  pub outcomes : name ≡ codes "outcomes" → wrong_outcomes rows ≡ Some wrong
   pub check : name ≡ codes "check" → wrong_file (first_of (codes "acts") rows) ≡ Some wrong
   pub run : name ≡ codes "run" → wrong_file (first_of (codes "file") rows) ≡ Some wrong
   pub key : name ≡ codes "key" → wrong_key rows ≡ Some wrong

@@ -32,7 +32,7 @@ flag_of (Some text) = bytes_eq text (codes "true")
 abbrev pub turn_count : List ℕ → Option ℕ
 turn_count text = number_of 20 1000000 text
 
--- a number of replays: of one to twenty digits, at least 1, and of 64 bits
+-- a number of replays, or of states: of one to twenty digits, at least 1, and of 64 bits
 abbrev pub try_count : List ℕ → Option ℕ
 try_count text = option_and_then (λ tries. if tries == 0 then None else Some tries) (long_number text)
 
@@ -41,6 +41,11 @@ abbrev pub AreTries : Option (List ℕ) → Option ℕ → Type 0
 AreTries None None = ⊤
 AreTries (Some text) (Some tries) = try_count text ≡ Some tries
 AreTries text other = ⊥
+
+-- the number of states of a text, and 100000 where no text is given
+abbrev pub IsMost : Option (List ℕ) → ℕ → Type 0
+IsMost None most = most ≡ 100000
+IsMost (Some text) most = try_count text ≡ Some most
 
 -- the path of the file that a schedule is in, where its text names one: a dash, which is standard input, or an at sign and the path
 abbrev pub schedule_file : List ℕ → Option (List ℕ)

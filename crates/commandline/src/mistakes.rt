@@ -37,6 +37,8 @@ pub enum Reason {
     BadStop,
     /// The number of replays is none, or 0, or too large.
     BadTries,
+    /// The number of states is none, or 0, or too large.
+    BadMost,
     /// The number of a key or a word is none, or too large.
     BadNumber,
     /// The number is none of hexadecimal digits, or has too many.
@@ -108,6 +110,10 @@ fn wording(reason: Reason) -> (&'static str, &'static str)
         Reason::BadTries => (
             "--tries \"",
             "\" is no number of replays: one to twenty decimal digits, 1 to 18446744073709551615",
+        ),
+        Reason::BadMost => (
+            "--most \"",
+            "\" is no number of states: one to twenty decimal digits, 1 to 18446744073709551615",
         ),
         Reason::BadNumber => (
             "N \"",

@@ -202,6 +202,49 @@ Exit status: 0 on success; 1 after a fault, also if WORD appears nowhere; 2 afte
     ],
 };
 
+/// The subcommand `outcomes`.
+static OUTCOMES: Line<'static> = Line {
+    name: "outcomes",
+    help: Help {
+        example: "Example: poolrun outcomes first.json",
+        about: "Prints everything that the lanes of a script file can reply, over whatever schedule",
+        usage: Some("poolrun outcomes <FILE> [--most <N>] [--count] [--explain]"),
+        more: "\
+Goes through every schedule that runs all scripts to their ends, without a turn that nobody makes. Schedules
+after which the same can come, and in which the lanes got the same replies so far, are followed as one state.
+
+The first line says how many states, schedules and different outcomes there are. For each outcome there
+follow: how many schedules end so; the first of them by the order of lane numbers, which `poolrun replay`
+takes; and the replies of lane 0, then those of lane 1, and so on, as a trace has them.
+
+The command gives up if there are more than N states; --explain says how many it had found.
+
+Exit status: 0 on success, 1 after a fault, 2 after a usage error.",
+    },
+    arguments: &[
+        Argument {
+            kind: Kind::Positional("FILE"),
+            name: "file",
+            help: "The script file, or - for standard input",
+        },
+        Argument {
+            kind: Kind::Valued("N"),
+            name: "most",
+            help: "The most states to go through, 1 to 18446744073709551615; 100000 unless given",
+        },
+        Argument {
+            kind: Kind::Flag,
+            name: "count",
+            help: "Prints the first line alone",
+        },
+        Argument {
+            kind: Kind::Flag,
+            name: "explain",
+            help: EXPLAIN,
+        },
+    ],
+};
+
 /// The subcommand `check`.
 static CHECK: Line<'static> = Line {
     name: "check",
@@ -308,6 +351,6 @@ pub(crate) fn read_words<'a>(
         version: VERSION,
         help: PROGRAM_HELP,
     };
-    let lines = [&REPLAY, &SHORTEN, &CHECK, &RUN, &KEY];
+    let lines = [&REPLAY, &SHORTEN, &OUTCOMES, &CHECK, &RUN, &KEY];
     read_by_lines(alloc, program, &lines, words)
 }

@@ -25,6 +25,13 @@ pub enum Task {
         stop: Option<Stop>,
         search: Search,
     },
+    /// Go through every schedule of the script file at this path, by so many states at most, and print what its lanes can
+    /// reply; where `count` holds, only how many states, schedules and outcomes there are.
+    Outcomes {
+        file: String,
+        most: u64,
+        count: bool,
+    },
     /// Check the acts in the file at this path.
     Check {
         file: String,
@@ -56,6 +63,7 @@ impl Task {
             Task::Replay { file, .. }
             | Task::Schedule { file, .. }
             | Task::Shorten { file, .. }
+            | Task::Outcomes { file, .. }
             | Task::Check { file }
             | Task::Run { file } => Some(file.as_str()),
             Task::Key { .. } | Task::Word { .. } => None,
@@ -70,7 +78,11 @@ impl Task {
             Task::Replay { turns, .. }
             | Task::Schedule { turns, .. }
             | Task::Shorten { turns, .. } => turns.path(),
-            Task::Check { .. } | Task::Run { .. } | Task::Key { .. } | Task::Word { .. } => None,
+            Task::Outcomes { .. }
+            | Task::Check { .. }
+            | Task::Run { .. }
+            | Task::Key { .. }
+            | Task::Word { .. } => None,
         }
     }
 

@@ -1,7 +1,7 @@
 //! The turns and the numbers that texts of the command line stand for.
 ghost use Rattle.std.specs.Prelude.{◌≡◌, Option, Some, None, IfOk, IfErr};
-ghost use Rattle.commandline.specs.Readings.{text_of, long_number, turn_count, try_count, key_number, schedule_file, are_both_input, AreTries, AreTurns, AreListed, IsStop};
-ghost use Rattle.commandline.specs.Mistakes.{Tells, wrong_turns, wrong_stop, wrong_tries, wrong_number, wrong_listed};
+ghost use Rattle.commandline.specs.Readings.{text_of, long_number, turn_count, try_count, key_number, schedule_file, are_both_input, AreTries, IsMost, AreTurns, AreListed, IsStop};
+ghost use Rattle.commandline.specs.Mistakes.{Tells, wrong_turns, wrong_stop, wrong_tries, wrong_most, wrong_number, wrong_listed};
 
 use crate::fault::{TaskFault, mistaken, mistaken_without};
 use crate::hexadecimal::read_hexadecimal;
@@ -136,7 +136,7 @@ pub(crate) fn read_turns(
     }
 }
 
-/// A number of replays.
+/// A number of replays, or of states.
 fn read_try_count(text: &str) -> Option<u64>
     ensures { result ≡ try_count text.now }
 {
@@ -159,6 +159,23 @@ pub(crate) fn tries_given(alloc: Global, text: Option<&str>) -> Result<Option<u6
         return Err(mistaken(alloc, Reason::BadTries, text));
     };
     Ok(Some(tries))
+}
+
+/// How many states a search goes through at most, where that isn't given.
+const MOST_STATES: u64 = 100_000;
+
+/// How many states a search goes through at most.
+pub(crate) fn most_given(alloc: Global, text: Option<&str>) -> Result<u64, TaskFault>
+    ensures ok { IfOk result (IsMost (text_of text.entry)) }
+    ensures err { IfErr result (Tells (wrong_most (text_of text.entry))) }
+{
+    let Some(text) = text else {
+        return Ok(MOST_STATES);
+    };
+    let Some(most) = read_try_count(text) else {
+        return Err(mistaken(alloc, Reason::BadMost, text));
+    };
+    Ok(most)
 }
 
 /// The stop of a replay, where one is given.

@@ -3,12 +3,14 @@ ghost use Rattle.std.specs.Prelude.{◌≡◌, codes, IfOk, IfErr, string_bytes}
 ghost use Rattle.clap.specs.Words.{first_of, found_of, rows_of};
 ghost use Rattle.commandline.specs.Readings.{text_of, flag_of};
 ghost use Rattle.commandline.specs.CommandLines.{AreMatchesOf, HasTurns};
-ghost use Rattle.commandline.specs.Mistakes.{Tells, RefusesMatches, wrong_given, wrong_replay, wrong_shorten, wrong_file, wrong_key};
+ghost use Rattle.commandline.specs.Mistakes.{Tells, RefusesMatches, wrong_given, wrong_replay, wrong_shorten, wrong_outcomes, wrong_file, wrong_key};
 
 use crate::fault::{TaskFault, mistaken_without};
 use crate::mistakes::Reason;
 use crate::tasks::{Search, Stop, Task, Turns};
-use crate::turns::{are_both_input, read_key_number, read_turns, stop_given, tries_given};
+use crate::turns::{
+    are_both_input, most_given, read_key_number, read_turns, stop_given, tries_given,
+};
 use clap::ArgMatches;
 use std::alloc::Global;
 
@@ -111,6 +113,17 @@ fn shorten_task(alloc: Global, matches: &ArgMatches) -> Result<Task, TaskFault>
     })
 }
 
+/// The task of the matches of `outcomes`.
+fn outcomes_task(alloc: Global, matches: &ArgMatches) -> Result<Task, TaskFault>
+    ensures ok { IfOk result (AreMatchesOf (codes "outcomes") (rows_of (found_of matches.now))) }
+    ensures err { IfErr result (Tells (wrong_outcomes (rows_of (found_of matches.now)))) }
+{
+    let file = file_given(alloc, matches, "file")?;
+    let most = most_given(alloc, given(matches, "most"))?;
+    let count = is_used(matches, "count");
+    Ok(Task::Outcomes { file, most, count })
+}
+
 /// The task of the matches of `check`.
 fn check_task(alloc: Global, matches: &ArgMatches) -> Result<Task, TaskFault>
     ensures ok { IfOk result (AreMatchesOf (codes "check") (rows_of (found_of matches.now))) }
@@ -152,6 +165,7 @@ pub(crate) fn task_of(alloc: Global, name: &str, matches: &ArgMatches) -> Result
     match name {
         "replay" => replay_task(alloc, matches),
         "shorten" => shorten_task(alloc, matches),
+        "outcomes" => outcomes_task(alloc, matches),
         "check" => check_task(alloc, matches),
         "run" => run_task(alloc, matches),
         "key" => key_task(alloc, matches),

@@ -1,5 +1,6 @@
 pub mod AmongLemmas
 pub mod CountLemmas
+pub mod DigitLemmas
 pub mod ScheduleLemmas
 pub mod Becoming
 pub mod TurnLemmas
@@ -8,3 +9,4 @@ pub mod LeadLemmas
 pub mod StateLemmas
 pub mod SearchLemmas
 pub mod EndLemmas
+pub mod TextLemmas

@@ -3,3 +3,4 @@ pub mod Numbers
 pub mod Schedules
 pub mod Outcomes
 pub mod Search
+pub mod Texts

@@ -1,10 +1,10 @@
 -- Numbers of any size by their digits.
 use Rattle.std.specs.List.{All}
-use Rattle.std.specs.Prelude.{◌<◌, ℕ, ◌+◌, ◌*◌, ◌/◌, ◌%◌, ◌==◌, List, [], ◌∷◌, if◌then◌else◌}
+use Rattle.std.specs.Prelude.{⊤, nat_lt, ◌<◌, ℕ, zero, suc, ◌+◌, ◌*◌, ◌/◌, ◌%◌, ◌==◌, List, [], ◌∷◌, ◌++◌, if◌then◌else◌}
 
 -- a digit is below it
 abbrev pub base : ℕ
-base = 1000000000
+base = 10
 
 -- these are digits
 abbrev pub AreDigits : List ℕ → Type 0
@@ -31,3 +31,23 @@ sum_digits [] (digit ∷ more) carry = (digit + carry) % base ∷ sum_digits [] 
 sum_digits (digit ∷ more) [] carry = (digit + carry) % base ∷ sum_digits more [] ((digit + carry) / base)
 sum_digits (digit ∷ more) (other ∷ others) carry =
     (digit + other + carry) % base ∷ sum_digits more others ((digit + other + carry) / base)
+
+-- the highest digit isn't 0
+abbrev pub IsTrimmed : List ℕ → Type 0
+IsTrimmed [] = ⊤
+IsTrimmed (digit ∷ []) = 0 < digit
+IsTrimmed (digit ∷ other ∷ more) = IsTrimmed (other ∷ more)
+
+-- digits, the lowest first, as a text has them, the highest first
+abbrev pub digits_told : List ℕ → List ℕ
+digits_told [] = []
+digits_told (digit ∷ more) = digits_told more ++ (48 + digit) ∷ []
+
+-- a number in decimal digits, by so many divisions at most
+abbrev pub told_within : ℕ → ℕ → List ℕ
+told_within zero number = []
+told_within (suc k) number = (if nat_lt number 10 then [] else told_within k (number / 10)) ++ (48 + number % 10) ∷ []
+
+-- a number of any size in decimal digits
+unfoldable pub number_text : ℕ → List ℕ
+number_text number = told_within (suc number) number

@@ -1,11 +1,13 @@
 -- Every outcome of scripts.
-use Rattle.std.specs.Prelude.{◌≡◌, ◌≢◌, ⊤, ℕ, ◌<◌, true, List, [], ◌∷◌, Some, length, slice_get}
+use Rattle.std.specs.Prelude.{◌≡◌, ◌≢◌, ⊤, ℕ, ◌<◌, ◌≤◌, true, List, [], ◌∷◌, Some, length, slice_get}
 use Rattle.keybits.specs.declared.shape.Shape.{Shape}
 use Rattle.traces.specs.declared.script.Command.{Command}
 use Rattle.traces.specs.declared.reply.Reply.{Reply}
 use Rattle.traces.specs.declared.trace.Turn.{Turn}
 use Rattle.traces.specs.Lawful.{world_of, is_finished, IsLawful}
 use Rattle.traces.specs.TurnLaws.{turns_of, all_replies}
+use Rattle.outcomes.specs.declared.fault.Unlisted.{Unlisted}
+use Rattle.outcomes.specs.declared.fault.Unlisted.TheVariants as unlisted
 use Rattle.outcomes.specs.declared.outcome.Outcome.{Outcome}
 use Rattle.outcomes.specs.Among.{IsIn, IsCount}
 use Rattle.outcomes.specs.Schedules.{IsUpTo}
@@ -47,3 +49,8 @@ pub record AreOutcomes (z : Shape) (scripts : List (List Command)) (outcomes : L
       → (outcome : Outcome) × IsIn outcome outcomes × (outcome.replies.items ≡ replies)
   pub different : AreDifferent outcomes
   pub count : IsCount (λ schedule. (trace : List Turn) × IsWhole z scripts schedule trace) ways
+
+-- why outcomes aren't listed, where so many states may lead to them: as many were found at least; or memory was refused
+abbrev pub IsUnlisted : ℕ → Unlisted → Type 0
+IsUnlisted most (unlisted.TooMany found) = most ≤ found
+IsUnlisted most unlisted.Memory = ⊤

@@ -1,12 +1,13 @@
 //! Counts of any size.
 ghost use Rattle.std.specs.Prelude.{◌≡◌, ◌+◌, ◌^◌, ◌++◌, ◌<◌, true, false, length, IfOk, OnOk, drop};
-ghost use Rattle.outcomes.specs.Numbers.{AreDigits, number_of, lowest, last_carry};
+ghost use Rattle.outcomes.specs.Numbers.{AreDigits, number_of, lowest, last_carry, number_text};
 
+use crate::digits::write_number;
 use std::alloc::{AllocError, Global};
 use std::marker::Model;
 
 /// A digit is below it.
-const BASE: u64 = 1_000_000_000;
+const BASE: u64 = 10;
 
 /// How many: a number of any size, by its digits, the lowest first.
 #[derive(Drop)]
@@ -58,6 +59,13 @@ impl Count {
         let digits = sum_digits(alloc, self.digits.as_slice(), other.digits.as_slice())?;
         self.digits = digits;
         Ok(())
+    }
+
+    /// Appends the count in decimal digits.
+    pub fn write(&self, text: &mut Vec<u8>) -> Result<(), AllocError>
+        ensures { OnOk result (text.new.items ≡ text.old.items ++ number_text self.now) }
+    {
+        write_number(self.digits.as_slice(), text)
     }
 }
 

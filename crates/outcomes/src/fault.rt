@@ -2,7 +2,6 @@
 ghost use Rattle.std.specs.Prelude.{◌≡◌};
 ghost use Rattle.outcomes.specs.declared.fault.Unlisted.TheVariants.{Memory};
 
-use coresteps::CoreFault;
 use std::alloc::{AllocError, AllocFailed};
 
 /// Why outcomes aren't listed.
@@ -26,14 +25,6 @@ impl<T: Drop> From<AllocFailed<T>> for Unlisted {
     ghost from_gives = { λ _ fault. fault ≡ Memory };
 
     fn from(_refused: AllocFailed<T>) -> Unlisted {
-        Unlisted::Memory
-    }
-}
-
-impl From<CoreFault> for Unlisted {
-    ghost from_gives = { λ _ fault. fault ≡ Memory };
-
-    fn from(_refused: CoreFault) -> Unlisted {
         Unlisted::Memory
     }
 }

@@ -2,6 +2,7 @@
 #![tactic(auto)]
 
 mod count;
+mod digits;
 mod fault;
 mod follow;
 mod lanes;
@@ -11,8 +12,10 @@ mod outcome;
 mod reached;
 mod search;
 mod table;
+mod texts;
 
 pub use count::Count;
 pub use fault::Unlisted;
 pub use outcome::Outcome;
 pub use search::{Outcomes, all_outcomes};
+pub use texts::outcomes_text;

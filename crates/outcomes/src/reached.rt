@@ -4,8 +4,9 @@ ghost use Rattle.outcomes.specs.Search.{IsJoined};
 
 use crate::count::Count;
 use crate::order::comes_before;
+use keybits::Step;
 use std::alloc::{AllocError, Global};
-use traces::{Trace, Turn};
+use traces::{Reply, Trace, Turn};
 
 /// A state that turns lead to: the first schedule of those that led there, its trace, and how many did.
 #[derive(Drop)]
@@ -24,24 +25,62 @@ fn spread(number: u64) -> u64 {
     mixed ^ (mixed >> 32)
 }
 
-/// What a turn adds to the mark of a trace: for its lane, and for the word that its step changes. Over all steps on a
-/// word what they found is taken off again but for the first.
-fn mark_of_turn(turn: &Turn) -> u64 {
-    let lane = spread(u64::from(turn.lane));
-    match &turn.step {
-        Some(step) => {
-            lane.wrapping_add(spread(step.after).wrapping_mul(3))
-                .wrapping_sub(spread(step.before).wrapping_mul(3))
-        }
-        None => lane,
+/// A number of a reply.
+fn number_of_reply(reply: &Reply) -> u64 {
+    match reply {
+        Reply::Filling(key) => key.wrapping_mul(16).wrapping_add(1),
+        Reply::Full => 2,
+        Reply::Memory => 3,
+        Reply::Done => 4,
+        Reply::Key(key) => key.wrapping_mul(16).wrapping_add(5),
+        Reply::Found(_) => 6,
+        Reply::Missing => 7,
+        Reply::Content(_) => 8,
+        Reply::Cleared(cleared) => if *cleared { 9 } else { 10 },
+        Reply::Skip => 11,
     }
 }
 
-/// The mark of a trace: how often each lane had a turn, and the words behind it.
-pub(crate) fn mark_of(turns: &[Turn]) -> u64 {
-    let mut mark: u64 = 0;
+/// The mark of some replies, behind another.
+fn mark_of_replies(mark: u64, replies: &[Reply]) -> u64 {
+    let mut mark = mark;
+    for reply in replies {
+        mark = spread(mark ^ number_of_reply(reply));
+    }
+    mark
+}
+
+/// What a step adds to the mark of a trace: for the word that it changes. Over all steps on a word what they found is
+/// taken off again but for the first.
+fn mark_of_step(step: &Option<Step>) -> u64 {
+    match step {
+        Some(step) => spread(step.after)
+            .wrapping_mul(3)
+            .wrapping_sub(spread(step.before).wrapping_mul(3)),
+        None => 0,
+    }
+}
+
+/// The mark of the turns of a lane: how many there are and what it replied.
+fn mark_of_lane(turns: &[Turn], lane: u32) -> u64 {
+    let mut mark = u64::from(lane);
     for turn in turns {
-        mark = mark.wrapping_add(mark_of_turn(turn));
+        if turn.lane == lane {
+            mark = mark_of_replies(spread(mark), turn.before.as_slice());
+            mark = mark_of_replies(mark, turn.after.as_slice());
+        }
+    }
+    spread(mark)
+}
+
+/// The mark of a trace: what each lane replied, and the words behind it.
+pub(crate) fn mark_of(turns: &[Turn], lanes: u32) -> u64 {
+    let mut mark: u64 = 0;
+    for lane in 0..lanes {
+        mark = mark.wrapping_add(mark_of_lane(turns, lane));
+    }
+    for turn in turns {
+        mark = mark.wrapping_add(mark_of_step(&turn.step));
     }
     mark
 }

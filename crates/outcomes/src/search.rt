@@ -1,11 +1,11 @@
 //! The search for every outcome: by states, a layer for each number of turns.
-ghost use Rattle.std.specs.Prelude.{◌≡◌, ◌+◌, ◌≤◌, [], ℕ, false, IfOk, OnOk, if◌then◌else◌};
+ghost use Rattle.std.specs.Prelude.{◌≡◌, ◌+◌, ◌≤◌, [], ℕ, false, IfOk, IfErr, OnOk, if◌then◌else◌};
 ghost use Rattle.traces.specs.declared.script.Command.{Command};
 ghost use Rattle.traces.specs.Lawful.{world_of, is_finished};
 ghost use Rattle.shortening.specs.Replays.{AreScriptsOf};
 ghost use Rattle.outcomes.specs.declared.outcome.Outcome.{Outcome};
 ghost use Rattle.outcomes.specs.declared.reached.Reached.{Reached};
-ghost use Rattle.outcomes.specs.Outcomes.{AreOutcomes};
+ghost use Rattle.outcomes.specs.Outcomes.{AreOutcomes, IsUnlisted};
 ghost use Rattle.outcomes.specs.Search.{IsReached, AreReached, AreShown, IsTried, AreTried, IsVisited, AreVisited};
 
 use crate::count::Count;
@@ -16,7 +16,7 @@ use crate::outcome::Outcome;
 use crate::reached::{Reached, first_state};
 use crate::table::{all_ways, conclude};
 use keybits::Shape;
-use std::alloc::Global;
+use std::alloc::{AllocError, Global};
 use traces::Script;
 
 /// Every outcome of scripts.
@@ -38,7 +38,7 @@ fn try_lane(
     from: &Reached,
     lane: u32,
     next: &mut Vec<Reached>,
-) -> Result<bool, Unlisted>
+) -> Result<bool, AllocError>
     requires { AreScriptsOf shape.now scripts.now }
     ensures { IfOk result (λ went. (size : ℕ) → IsReached shape.now scripts.now size from.now
         → AreReached shape.now scripts.now (size + 1) next.old.items
@@ -68,7 +68,7 @@ fn try_lanes(
     scripts: &[Script],
     from: &Reached,
     next: &mut Vec<Reached>,
-) -> Result<bool, Unlisted>
+) -> Result<bool, AllocError>
     requires { AreScriptsOf shape.now scripts.now }
     ensures { IfOk result (λ ended. (size : ℕ) → IsReached shape.now scripts.now size from.now
         → AreReached shape.now scripts.now (size + 1) next.old.items
@@ -90,7 +90,7 @@ fn visit(
     from: &Reached,
     next: &mut Vec<Reached>,
     table: &mut Vec<Outcome>,
-) -> Result<(), Unlisted>
+) -> Result<(), AllocError>
     requires { AreScriptsOf shape.now scripts.now }
     ensures { OnOk result ((size : ℕ) → IsReached shape.now scripts.now size from.now
         → AreReached shape.now scripts.now (size + 1) next.old.items
@@ -112,7 +112,7 @@ fn next_layer(
     scripts: &[Script],
     layer: &[Reached],
     table: &mut Vec<Outcome>,
-) -> Result<Vec<Reached>, Unlisted>
+) -> Result<Vec<Reached>, AllocError>
     requires { AreScriptsOf shape.now scripts.now }
     ensures { IfOk result (λ next. (size : ℕ) → AreReached shape.now scripts.now size layer.now
         → AreShown shape.now scripts.now table.old.items
@@ -136,6 +136,7 @@ pub fn all_outcomes(
     requires { AreScriptsOf shape.now scripts.now }
     ensures ok { IfOk result (λ found. AreOutcomes shape.now scripts.now found.outcomes.items found.ways) }
     ensures most { IfOk result (λ found. found.states ≤ most) }
+    ensures err { IfErr result (IsUnlisted most) }
 {
     let start = first_state(alloc)?;
     let mut layer = Vec::new(alloc);

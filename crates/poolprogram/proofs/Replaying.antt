@@ -35,6 +35,7 @@ refuses_replay file schedule plan (runs.Read fault) stands of = absurd of
 refuses_replay file schedule plan (runs.Acts fault) stands of = absurd of
 refuses_replay file schedule plan (runs.Shortening fault) stands of = absurd of
 refuses_replay file schedule plan (runs.Absent decoded) stands of = absurd of
+refuses_replay file schedule plan (runs.TooMany reached) stands of = absurd of
 refuses_replay file schedule plan runs.Open stands of = absurd of
 refuses_replay file schedule plan (runs.File why) stands of = absurd of
 refuses_replay file schedule plan runs.Output stands of = absurd of

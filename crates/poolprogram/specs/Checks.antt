@@ -71,6 +71,7 @@ RefusesActs bytes (runs.Read fault) = ⊥
 RefusesActs bytes (runs.Core fault) = ⊥
 RefusesActs bytes (runs.Shortening fault) = ⊥
 RefusesActs bytes (runs.Absent decoded) = ⊥
+RefusesActs bytes (runs.TooMany reached) = ⊥
 RefusesActs bytes runs.Open = ⊥
 RefusesActs bytes (runs.File why) = ⊥
 RefusesActs bytes runs.Output = ⊥

@@ -1,5 +1,5 @@
 -- Why a task ended as it did, in words.
-use Rattle.std.specs.Prelude.{◌≡◌, ℕ, Bool, true, false, List, [], Option, Some, None, Result, Ok, Err, codes, string_bytes}
+use Rattle.std.specs.Prelude.{◌≡◌, ℕ, Bool, true, false, List, [], Option, Some, None, Result, Ok, Err, ◌++◌, decimal, codes, string_bytes}
 use Rattle.commandline.specs.Tasks.{path_of}
 use Rattle.commandline.specs.declared.tasks.Task.{Task}
 use Rattle.commandline.specs.declared.tasks.Task.TheVariants as tasks
@@ -25,6 +25,7 @@ abbrev pub number_of_task : Task → Option ℕ
 number_of_task (tasks.Replay file turns stop acts) = None
 number_of_task (tasks.Schedule file turns stop) = None
 number_of_task (tasks.Shorten file turns stop word) = None
+number_of_task (tasks.Outcomes file most count) = None
 number_of_task (tasks.Check file) = None
 number_of_task (tasks.Run file) = None
 number_of_task (tasks.Key number) = Some number
@@ -51,6 +52,10 @@ shortening_told shortenings.Fails = absent_told false
 shortening_told shortenings.Limit = codes "100000000 entries were replayed, and more can perhaps be left out: cut the schedule before"
 shortening_told shortenings.Memory = codes "memory was refused"
 
+-- why outcomes aren't listed: so many states were found
+abbrev pub states_told : ℕ → List ℕ
+states_told reached = decimal reached ++ codes " states were found, more than --most allows: give a larger --most, or shorter scripts"
+
 -- what is said of a schedule that was shortened by as many replays as may be
 abbrev pub early_told : List ℕ
 early_told = codes "all replays of --tries were made, and more can perhaps be left out"
@@ -63,6 +68,7 @@ ExplainsFault subject file why (runs.File unread) text = ExplainsUnread subject 
 ExplainsFault subject file why runs.Output text = text ≡ output_line why
 ExplainsFault subject file why (runs.Core fault) text = text ≡ line_text (codes "memory was refused")
 ExplainsFault subject file why (runs.Absent decoded) text = text ≡ line_text (absent_told decoded)
+ExplainsFault subject file why (runs.TooMany reached) text = text ≡ line_text (states_told reached)
 ExplainsFault subject file why (runs.Shortening fault) text = text ≡ line_text (shortening_told fault)
 ExplainsFault subject file why runs.Open text = text ≡ line_text (codes "memory was refused")
 ExplainsFault subject file why runs.Memory text = text ≡ line_text (codes "memory was refused")

@@ -1,3 +1,4 @@
+pub mod Outcomes
 pub mod Replays
 pub mod RunFaults
 pub mod Checks

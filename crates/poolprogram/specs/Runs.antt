@@ -96,6 +96,7 @@ RefusesRun file runs.Memory = HasPlan file
 RefusesRun file (runs.Core fault) = ⊥
 RefusesRun file (runs.Acts fault) = ⊥
 RefusesRun file (runs.Absent decoded) = ⊥
+RefusesRun file (runs.TooMany reached) = ⊥
 RefusesRun file (runs.Shortening fault) = ⊥
 RefusesRun file (runs.File why) = ⊥
 RefusesRun file runs.Output = ⊥

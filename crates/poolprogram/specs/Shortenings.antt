@@ -95,6 +95,7 @@ RefusesShortestOf plan search schedule runs.Memory = ⊤
 RefusesShortestOf plan search schedule (runs.Read fault) = ⊥
 RefusesShortestOf plan search schedule (runs.Acts fault) = ⊥
 RefusesShortestOf plan search schedule (runs.Core fault) = ⊥
+RefusesShortestOf plan search schedule (runs.TooMany reached) = ⊥
 RefusesShortestOf plan search schedule runs.Open = ⊥
 RefusesShortestOf plan search schedule (runs.File why) = ⊥
 RefusesShortestOf plan search schedule runs.Output = ⊥

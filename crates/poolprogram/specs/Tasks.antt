@@ -2,9 +2,10 @@
 use Rattle.std.specs.Prelude.{◌≡◌, ℕ, Bool, true, false, List, [], ◌++◌, Option, Result, Ok, Err, decimal, codes}
 use Rattle.std.specs.Io.KnownBytes.{Appends}
 use Rattle.commandline.specs.declared.tasks.Task.{Task}
-use Rattle.commandline.specs.declared.tasks.Task.TheVariants.{Replay, Schedule, Shorten, Check, Run, Key, Word}
+use Rattle.commandline.specs.declared.tasks.Task.TheVariants.{Replay, Schedule, Shorten, Outcomes, Check, Run, Key, Word}
 use Rattle.poolprogram.specs.Turns.{WritesTurns, WritesSchedule, RefusesTurns, RefusesListing}
 use Rattle.poolprogram.specs.Shortenings.{WritesShortening, RefusesShortest}
+use Rattle.poolprogram.specs.Outcomes.{WritesOutcomes, RefusesOutcomes}
 use Rattle.poolprogram.specs.Checks.{WritesVerdict, RefusesActs}
 use Rattle.poolprogram.specs.Runs.{WritesRun, RefusesRun}
 use Rattle.poolprogram.specs.KeyTexts.{WritesKey}
@@ -34,6 +35,7 @@ WritesTask (Replay path turns stop acts) file done old new =
 WritesTask (Schedule path turns stop) file done old new = (done ≡ Well) × WritesSchedule file turns stop old new
 WritesTask (Shorten path turns stop search) file done old new =
     (least : Bool) × (done ≡ done_short least) × WritesShortening file turns stop search least old new
+WritesTask (Outcomes path most count) file done old new = (done ≡ Well) × WritesOutcomes file most count old new
 WritesTask (Check path) file done old new = (legal : Bool) × (done ≡ done_by legal) × WritesVerdict file legal old new
 WritesTask (Run path) file done old new = (done ≡ Well) × WritesRun file old new
 WritesTask (Key number) file done old new = (known : Bool) × (done ≡ done_by known) × WritesKey number known old new
@@ -44,6 +46,7 @@ abbrev pub RefusesTask : Task → List ℕ → RunFault → Type 0
 RefusesTask (Replay path turns stop acts) file fault = RefusesTurns file turns stop fault
 RefusesTask (Schedule path turns stop) file fault = RefusesListing file turns fault
 RefusesTask (Shorten path turns stop search) file fault = RefusesShortest file turns stop search fault
+RefusesTask (Outcomes path most count) file fault = RefusesOutcomes file most fault
 RefusesTask (Check path) file fault = RefusesActs file fault
 RefusesTask (Run path) file fault = RefusesRun file fault
 RefusesTask (Key number) file fault = fault ≡ runs.Memory

@@ -72,6 +72,7 @@ RefusesSchedule file turns (runs.Core fault) = ⊥
 RefusesSchedule file turns (runs.Acts fault) = ⊥
 RefusesSchedule file turns (runs.Shortening fault) = ⊥
 RefusesSchedule file turns (runs.Absent decoded) = ⊥
+RefusesSchedule file turns (runs.TooMany reached) = ⊥
 RefusesSchedule file turns runs.Open = ⊥
 RefusesSchedule file turns runs.Output = ⊥
 RefusesSchedule file turns runs.Memory = ⊥

@@ -2,7 +2,7 @@
 ghost use Rattle.std.specs.Prelude.{◌≡◌, IfOk, IsOk, codes, string_bytes};
 ghost use Rattle.streams.specs.Shown.{IsSafeLine, line_text};
 ghost use Rattle.explanations.specs.Said.{IsLineOrNone};
-ghost use Rattle.poolprogram.specs.Explanations.{IsSubjectOf, absent_told, shortening_told, ExplainsUnread, ExplainsFault, Explains, IsPlain};
+ghost use Rattle.poolprogram.specs.Explanations.{IsSubjectOf, absent_told, shortening_told, states_told, ExplainsUnread, ExplainsFault, Explains, IsPlain};
 
 use crate::done::Done;
 use crate::half_run::explain_half_run;
@@ -32,6 +32,7 @@ pub fn subject_of(alloc: Global, task: &Task) -> Result<Subject, AllocError>
         Task::Replay { file, .. }
         | Task::Schedule { file, .. }
         | Task::Shorten { file, .. }
+        | Task::Outcomes { file, .. }
         | Task::Check { file }
         | Task::Run { file } => {
             let path = String::from_str(alloc, file.as_str())?;
@@ -76,6 +77,17 @@ fn why_not_shorter(fault: Unshortened) -> &'static [u8]
     }
 }
 
+/// The line that explains why outcomes aren't listed: so many states were found.
+fn why_too_many(alloc: Global, reached: u64) -> Result<String, AllocError>
+    ensures is { IfOk result (λ text. string_bytes text ≡ line_text (states_told reached)) }
+    ensures safe { IfOk result (λ text. IsSafeLine (string_bytes text)) }
+{
+    let text = format!(in alloc;
+        "{reached} states were found, more than --most allows: give a larger --most, or shorter scripts"
+    )?;
+    line_of(alloc, text.as_bytes())
+}
+
 /// The line that explains a fault; that of the output by this reason.
 fn explain_fault(
     alloc: Global,
@@ -93,6 +105,7 @@ fn explain_fault(
         RunFault::File(unread) => explain_unread(alloc, subject, *unread),
         RunFault::Output => explain_output(alloc, why),
         RunFault::Absent { decoded } => line_of(alloc, why_absent(*decoded)),
+        RunFault::TooMany(reached) => why_too_many(alloc, *reached),
         RunFault::Shortening(fault) => line_of(alloc, why_not_shorter(*fault)),
         RunFault::Core(_) | RunFault::Open | RunFault::Memory => {
             line_of(alloc, b"memory was refused")

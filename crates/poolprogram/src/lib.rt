@@ -5,6 +5,7 @@
 
 mod check;
 mod done;
+mod every_outcome;
 mod explanation;
 mod half_run;
 mod key;
@@ -25,6 +26,7 @@ mod word;
 
 pub use check::check_text;
 pub use done::Done;
+pub use every_outcome::every_outcome_text;
 pub use explanation::{Subject, explain, subject_of};
 pub use key::key_text;
 pub use meter::Meter;

@@ -31,6 +31,9 @@ pub enum RunFault {
     /// A schedule wasn't shortened: too much would have to be replayed (45) or memory was refused to a replay (25).
     #[error("the schedule isn't shortened")]
     Shortening(Unshortened),
+    /// Outcomes aren't listed, as there are more states than the search may go through: so many were found (46).
+    #[error("too many states")]
+    TooMany(u64),
     /// The pool wasn't opened, as memory was refused (5).
     #[error("out of memory")]
     Open,
@@ -61,6 +64,7 @@ impl RunFault {
             RunFault::Shortening(Unshortened::Fails) => 44,
             RunFault::Shortening(Unshortened::Limit) => 45,
             RunFault::Shortening(Unshortened::Memory) => 25,
+            RunFault::TooMany(_) => 46,
             RunFault::Open => 5,
             RunFault::File(_) => 41,
             RunFault::Output => 42,
@@ -80,6 +84,7 @@ impl RunFault {
             RunFault::Shortening(Unshortened::Fails) => "Absent",
             RunFault::Shortening(Unshortened::Limit) => "Limit",
             RunFault::Shortening(Unshortened::Memory) => "Memory",
+            RunFault::TooMany(_) => "States",
             RunFault::Open => "Memory",
             RunFault::File(_) => "File",
             RunFault::Output => "Output",

@@ -5,6 +5,7 @@ ghost use Rattle.poolprogram.specs.Tasks.{WritesTask, RefusesTask, task_status, 
 
 use crate::check::check_text;
 use crate::done::{Done, done_by, done_short};
+use crate::every_outcome::every_outcome_text;
 use crate::key::key_text;
 use crate::meter::Meter;
 use crate::run::run_text;
@@ -20,7 +21,7 @@ use std::sync::Wait;
 use std::thread::Threads;
 use streams::{Watched, write_text};
 
-/// Does a task on the bytes of its file: a replay, what is said of its schedule, a check, a run or what is said of a
+/// Does a task on the bytes of its file: a replay, what is said of its schedule, all outcomes, a check, a run or what is said of a
 /// key or a word. The answer is the replay, where one was made; `Badly` where acts are illegal or a number is no key's, and then this was said; `Early`
 /// where a schedule is shortened by as many replays as may be. The errors are those of the call for the task's kind, and
 /// all but `Output` come before the first byte. Meanwhile `meter` tells how far a long one is.
@@ -65,6 +66,14 @@ pub fn do_task<R: Threads + Wait + Sync, W: Write, M: Write>(
         } => {
             let least = shortening_text(alloc, file, turns, stop, search, out, meter)?;
             Ok(done_short(least))
+        }
+        Task::Outcomes {
+            file: _,
+            most,
+            count,
+        } => {
+            every_outcome_text(alloc, file, most, count, out)?;
+            Ok(Done::Well)
         }
         Task::Check { file: _ } => {
             let legal = check_text(alloc, file, out)?;

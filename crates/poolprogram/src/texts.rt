@@ -48,8 +48,12 @@ fn write_done(done: &Done, text: &mut Vec<u8>) -> Result<(), AllocError>
     }
 }
 
-/// Appends a line for each reply of the worker of this number.
-fn write_replies(number: u32, replies: &[Reply], text: &mut Vec<u8>) -> Result<(), AllocError>
+/// Appends a line for each reply of the worker, or the lane, of this number.
+pub(crate) fn write_replies(
+    number: u32,
+    replies: &[Reply],
+    text: &mut Vec<u8>,
+) -> Result<(), AllocError>
     ensures { OnOk result (text.new.items ≡ text.old.items ++ flat_map (reply_line number) replies.now) }
 {
     for reply in replies {

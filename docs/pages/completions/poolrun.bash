@@ -3,7 +3,7 @@ _poolrun() {
     local word=${COMP_WORDS[COMP_CWORD]} before=${COMP_WORDS[COMP_CWORD-1]}
     COMPREPLY=()
     if [ "$COMP_CWORD" -eq 1 ]; then
-        mapfile -t COMPREPLY < <(compgen -W 'replay shorten check run key --help --version' -- "$word")
+        mapfile -t COMPREPLY < <(compgen -W 'replay shorten outcomes check run key --help --version' -- "$word")
         return
     fi
     case ${COMP_WORDS[1]} in
@@ -19,6 +19,14 @@ _poolrun() {
         case $before in --until | --schedule | --seed | --turns | --stop | --tries) return ;; esac
         if [[ $word == -* ]]; then
             mapfile -t COMPREPLY < <(compgen -W '--until --schedule --seed --turns --stop --tries --words --scripts --progress --explain --progress=never --progress=always --progress=auto --explain=never --explain=always --explain=auto --help' -- "$word")
+        else
+            mapfile -t COMPREPLY < <(compgen -f -- "$word")
+        fi
+        ;;
+    outcomes)
+        case $before in --most) return ;; esac
+        if [[ $word == -* ]]; then
+            mapfile -t COMPREPLY < <(compgen -W '--most --count --explain --explain=never --explain=always --explain=auto --help' -- "$word")
         else
             mapfile -t COMPREPLY < <(compgen -f -- "$word")
         fi
