@@ -10,6 +10,7 @@ import time
 
 BROWSERS = ("chromium", "chromium-browser", "google-chrome", "chrome")
 SECONDS = 60
+ALL_SECONDS = 500
 KEYS = {"Enter": "\r", "Tab": "", "Escape": ""}
 
 
@@ -38,6 +39,7 @@ class Browser:
         os.close(told)
         os.close(heard)
         self.kept, self.number, self.session, self.events = b"", 0, None, []
+        self.end = time.monotonic() + ALL_SECONDS
         target = self.call("Target.createTarget", url="about:blank")["targetId"]
         self.session = self.call("Target.attachToTarget", targetId=target, flatten=True)["sessionId"]
         self.call("Page.enable")
@@ -53,10 +55,11 @@ class Browser:
         os.close(self.hear)
 
     def message(self, end):
-        """The next message, up to this time."""
+        """The next message, up to this time and to the end of all."""
+        end = min(end, self.end)
         while b"\0" not in self.kept:
             if not select.select([self.hear], [], [], max(0, end - time.monotonic()))[0]:
-                raise NoAnswer(f"no answer within {SECONDS} seconds")
+                raise NoAnswer(f"no answer within {SECONDS} seconds, or {ALL_SECONDS} in all")
             part = os.read(self.hear, 1 << 20)
             if not part:
                 raise NoAnswer("the browser has ended")

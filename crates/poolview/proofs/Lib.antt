@@ -1,2 +1,3 @@
+mod GraphLemmas
 mod Safe
 mod WordLemmas

@@ -77,7 +77,7 @@ line_not_output bytes fault refused is = subst (RefusesLine bytes) is refused
 pub words_shown : (path : List ℕ) (view : View) (keys : Bool) (bytes : List ℕ) (lines : List Line) → view ≡ views.Words keys false → AreLines lines bytes
     → ShowsText path view bytes (lines_words keys false lines)
 words_shown path view keys bytes lines is are =
-    subst (λ (v : View). ShowsText path v bytes (lines_words keys false lines)) (sym is) (record { lines = lines; are = are; shown = refl })
+    subst (λ (v : View). ShowsText path v bytes (lines_words keys false lines)) (sym is) (inl (record { lines = lines; are = are; shown = refl }))
 
 refuses_words : (keys : Bool) (bytes : List ℕ) (fault : Fault) → RefusesLine bytes fault → RefusesText (views.Words keys false) bytes fault
 refuses_words keys bytes (faults.Line number wanted) refused = refused
@@ -86,6 +86,7 @@ refuses_words keys bytes (faults.File why) refused = absurd refused
 refuses_words keys bytes (faults.Stray stray) refused = absurd refused
 refuses_words keys bytes faults.Output refused = absurd refused
 refuses_words keys bytes faults.Large refused = absurd refused
+refuses_words keys bytes faults.Graph refused = absurd refused
 
 -- what words leave
 pub leaves_words : {O : Type 0} (contents : O → Option (List ℕ)) (view : View) (keys : Bool) (bytes : List ℕ) (fault : Fault) (old new : Watched O)

@@ -36,6 +36,7 @@ fault_text faults.Memory = codes "fault 43 Memory\n"
 fault_text (faults.Line number wanted) = codes "line " ++ decimal number ++ codes ": " ++ wanted_text wanted ++ codes " is wanted\n"
 fault_text (faults.Stray stray) = stray_text stray
 fault_text faults.Large = codes "the picture needs more than 32767 pixels, which no viewer opens: leave out --whole, or give --turns\n"
+fault_text faults.Graph = codes "no graph of states: an object with script, lanes, states and outcomes is wanted\n"
 
 -- what is said of a line that is none, and of one whose step doesn't follow
 abbrev pub no_line : List ℕ
@@ -69,6 +70,7 @@ explanation_text path bytes why (faults.File unread) = wrong_file_text path unre
 explanation_text path bytes why faults.Output = output_text why
 explanation_text path bytes why faults.Memory = []
 explanation_text path bytes why faults.Large = []
+explanation_text path bytes why faults.Graph = []
 explanation_text path bytes why (faults.Line number wanted) = wrong_line_text no_line number bytes
 explanation_text path bytes why (faults.Stray stray) = wrong_line_text no_step stray.number bytes
 

@@ -1,3 +1,4 @@
 pub mod Faults
+pub mod Graphs
 pub mod Shows
 pub mod Endings

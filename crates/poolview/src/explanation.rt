@@ -66,7 +66,7 @@ fn explain<E: Write>(
     match fault {
         Fault::File(unread) => explain_file(path, unread, errors),
         Fault::Output => explain_output(why, errors),
-        Fault::Memory | Fault::Large => {}
+        Fault::Memory | Fault::Large | Fault::Graph => {}
         Fault::Line { number, wanted: _ } => explain_line(number, NO_LINE, bytes, errors),
         Fault::Stray(stray) => explain_line(stray.number, NO_STEP, bytes, errors),
     }

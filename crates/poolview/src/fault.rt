@@ -25,6 +25,8 @@ pub(crate) enum Fault {
     Stray(Stray),
     /// The picture that is asked for is larger than viewers open.
     Large,
+    /// What is to be a graph of states is none.
+    Graph,
 }
 
 impl From<Unread> for Fault {
@@ -101,6 +103,10 @@ pub(crate) fn write_fault<E: Write>(fault: Fault, errors: &mut Watched<E>)
         Fault::Stray(stray) => write_stray(stray, errors),
         Fault::Large => write_text(
             b"the picture needs more than 32767 pixels, which no viewer opens: leave out --whole, or give --turns\n",
+            errors,
+        ),
+        Fault::Graph => write_text(
+            b"no graph of states: an object with script, lanes, states and outcomes is wanted\n",
             errors,
         ),
     }

@@ -1,10 +1,12 @@
 //! The program: it shows a trace that `poolrun replay` printed, as a picture, by its lines with their words
-//! decoded, in sum, as JSON, as trace events, or as a page; or says whether its steps follow from one another.
+//! decoded, in sum, as JSON, as trace events, or as a page; or says whether its steps follow from one another. On a page it also shows a
+//! graph of states.
 //! What it shows, writes and ends with is `view_trace`'s, over any input and writers: here are the streams.
 #![tactic(auto)]
 
 mod explanation;
 mod fault;
+mod graphs;
 mod showing;
 mod streaming;
 mod viewing;

@@ -24,3 +24,18 @@ pub record IsHtmlPage (name : List ℕ) (first count : ℕ) (lines : List Line) 
   pub middle : List ℕ
   pub tail : List ℕ
   pub is : text ≡ codes "<!DOCTYPE html>\n" ++ head ++ title_text name ++ middle ++ data_text first count lines ++ tail ++ codes "</html>\n"
+
+-- a byte of a JSON text within a script's element: of the sign that begins a tag, which stands only in the strings of such a text, its number
+abbrev pub script_code : ℕ → List ℕ
+script_code byte = if byte == 60 then codes "\\u003c" else byte ∷ []
+
+-- the element with the states of a script, whose JSON this is
+abbrev pub states_text : List ℕ → List ℕ
+states_text json = codes "<script type='application/json' id='states'>\n" ++ flat_map script_code json ++ codes "\n</script>\n"
+
+-- an HTML text with the title and the states of a script in it; of the rest no clause speaks
+pub record IsWaysPage (name json text : List ℕ) : Type 0 where
+  pub head : List ℕ
+  pub middle : List ℕ
+  pub tail : List ℕ
+  pub is : text ≡ codes "<!DOCTYPE html>\n" ++ head ++ title_text name ++ middle ++ states_text json ++ tail ++ codes "</html>\n"

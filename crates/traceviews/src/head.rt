@@ -16,7 +16,7 @@ pub(crate) struct Extent {
 }
 
 /// The height of the title, the legend and the names of the columns.
-pub(crate) const TOP: u64 = 144;
+pub(crate) const TOP: u64 = 160;
 
 /// What a picture is, for those who don't see it.
 const DESCRIPTION: &str =
@@ -45,22 +45,23 @@ text { fill: #e6edf3 } .faint { fill: #9da7b3 } .number { fill: #9da7b3 } .reply
 <defs><marker id=\"tip\" viewBox=\"0 0 8 8\" refX=\"7\" refY=\"4\" markerWidth=\"8\" markerHeight=\"8\" markerUnits=\"userSpaceOnUse\" orient=\"auto\"><path class=\"tip\" d=\"M0 0L8 4L0 8z\"/></marker></defs>
 ";
 
-/// The end of the line of text over the picture, and the legend below it.
+/// The end of the line of text over the picture, and the legend below it, which 385 pixels have room for.
 const LEGEND: &str = "</text>
 <rect class=\"IDLE\" x=\"16\" y=\"37\" width=\"14\" height=\"14\"/>
-<text class=\"faint\" x=\"36\" y=\"48\">IDLE</text>
-<rect class=\"PRESENT\" x=\"86\" y=\"37\" width=\"14\" height=\"14\"/>
-<text class=\"faint\" x=\"106\" y=\"48\">PRESENT</text>
-<rect class=\"MARKED\" x=\"176\" y=\"37\" width=\"14\" height=\"14\"/>
-<text class=\"faint\" x=\"196\" y=\"48\">MARKED</text>
-<rect class=\"RETIRED\" x=\"258\" y=\"37\" width=\"14\" height=\"14\"/>
-<text class=\"faint\" x=\"278\" y=\"48\">RETIRED</text>
-<rect class=\"link\" x=\"350\" y=\"37\" width=\"14\" height=\"14\"/>
-<text class=\"faint\" x=\"370\" y=\"48\">returns</text>
-<text class=\"faint\" x=\"16\" y=\"68\">A step: what it found → what it left, as state, count and</text>
-<text class=\"faint\" x=\"16\" y=\"84\">generation. A place: shard/page/slot. A stack: shard.lane</text>
-<text class=\"faint\" x=\"16\" y=\"100\">An arrow: a lane finds what another lane left. A strip:</text>
-<text class=\"faint\" x=\"16\" y=\"116\">a place, with the first letter of its state and its count.</text>
+<text class=\"faint\" x=\"34\" y=\"48\">IDLE</text>
+<rect class=\"PRESENT\" x=\"73\" y=\"37\" width=\"14\" height=\"14\"/>
+<text class=\"faint\" x=\"91\" y=\"48\">PRESENT</text>
+<rect class=\"MARKED\" x=\"152\" y=\"37\" width=\"14\" height=\"14\"/>
+<text class=\"faint\" x=\"170\" y=\"48\">MARKED</text>
+<rect class=\"RETIRED\" x=\"223\" y=\"37\" width=\"14\" height=\"14\"/>
+<text class=\"faint\" x=\"241\" y=\"48\">RETIRED</text>
+<rect class=\"link\" x=\"302\" y=\"37\" width=\"14\" height=\"14\"/>
+<text class=\"faint\" x=\"320\" y=\"48\">returns</text>
+<text class=\"faint\" x=\"16\" y=\"68\">A step: what it found → what it left, as state,</text>
+<text class=\"faint\" x=\"16\" y=\"84\">count and generation. A place: shard/page/slot.</text>
+<text class=\"faint\" x=\"16\" y=\"100\">A stack: shard.lane. An arrow: a lane finds what</text>
+<text class=\"faint\" x=\"16\" y=\"116\">another lane left. A strip: a place, with the</text>
+<text class=\"faint\" x=\"16\" y=\"132\">first letter of its state and its count.</text>
 ";
 
 /// Appends which turns are shown.

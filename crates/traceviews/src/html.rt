@@ -33,7 +33,7 @@ fn push_plain(text: &str, out: &mut Page)
 }
 
 /// Appends the title of the page of a trace that has this name.
-fn push_title(name: &str, out: &mut Page)
+pub(crate) fn push_title(name: &str, out: &mut Page)
     ensures { Grows out.old out.new (title_text name.now) }
 {
     out.text("<title>");

@@ -11,7 +11,7 @@
 //!   `strips` draws places, `arrows` who finds what another left, `boxes` a turn, `head` the title and the legend,
 //!   `shapes` the elements of SVG.
 //! - For other tools: `json`, the turns as JSON, and `events`, in the trace-event form, with the slices of `calls`. The HTML page: `html`, with
-//!   what is the same for each in `template`.
+//!   what is the same for each in `template`. The page of the ways through a script: `ways_page`, with `ways_template`.
 //! - What they write to: `page`, a text that remembers a refusal of memory; it has words and places as text.
 #![tactic(auto)]
 
@@ -44,6 +44,8 @@ mod template;
 mod turn_words;
 mod turns;
 mod values;
+mod ways_page;
+mod ways_template;
 mod words;
 
 pub use counts::{failed_steps, is_unfinished, longest_call, replies_of, steps_of};
@@ -58,4 +60,5 @@ pub use reader::{LINES_HELD, check_lines, read_lines, read_trace};
 pub use summary::summary_text;
 pub use turn_words::turns_words;
 pub use turns::turn_count;
+pub use ways_page::ways_html_text;
 pub use words::{WordStyle, words_text};

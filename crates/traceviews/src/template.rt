@@ -1,5 +1,5 @@
 //! What of the HTML page is the same for each trace: a style, a body, and the script that shows the turns. The colours are
-//! those of the picture.
+//! those of the picture. A page of the ways through a script has `ways_template` too.
 
 /// The page up to its title.
 const HEAD: &str = "<html lang='en'>
@@ -77,6 +77,9 @@ mark { background: var(--change); color: inherit; border-radius: 3px; padding: 0
 .IDLE { background: #bbbbbb } .PRESENT { background: #009e73 } .MARKED { background: #e69f00 } .RETIRED { background: #d55e00 }
 dl { margin: 0; display: grid; grid-template-columns: max-content 1fr; gap: 2px 8px } dt { font-weight: bold } dd { margin: 0 }
 ol { margin: 0 0 8px; padding-left: 48px } li.done { background: var(--now) } li.later { color: var(--faint); font-style: italic }
+#choice button { display: block; width: 100%; margin: 2px 0; text-align: left } #choice button.chosen { border-color: var(--blue) }
+#choice code { font: inherit; user-select: all; overflow-wrap: anywhere } #ends td { white-space: normal; overflow-wrap: anywhere } #ends td.right { padding-right: 10px }
+#ends tr.gone { color: var(--faint) } #ends h3 { margin: 0 } #ends button { white-space: nowrap }
 #code { padding-left: 24px; margin: 0 } #code li.now { background: var(--now); font-weight: bold } #code li.not { color: var(--faint) } #code a { margin-left: 8px }
 .lane { stroke: var(--line) } .arrow { stroke: var(--arrow); fill: none } .arrow.here { stroke: var(--blue); stroke-width: 2 }
 .tip { fill: var(--arrow) } .tip.here { fill: var(--blue) }
@@ -95,6 +98,7 @@ ol { margin: 0 0 8px; padding-left: 48px } li.done { background: var(--now) } li
   #slider { flex: 1 1 100px } #search { flex: 1 1 80px; width: 80px }
   main { display: flex; flex-direction: column; overflow: visible } .part { padding: 6px 8px } .column { border-left: 0; overflow: visible; contain: none }
   #middle { display: contents } #now { display: block; order: 1 } #trail { order: 2 } #call { order: 3 } #commands { order: 4 } #legend { order: 5 }
+  #commands.steered { display: contents } #choice { order: 0 } #ends { order: 2 } #told { order: 4 }
   #list { flex: none; height: 50vh } #spots { max-height: 150px } #returned { max-height: 90px } .values { width: 104px; padding: 0 4px }
   .number { width: 36px } #graph { left: 40px }
 }
@@ -138,7 +142,7 @@ const BODY: &str = "<body>
 <section class='part'><h2>States, and other words</h2><dl id='words'></dl></section>
 </div>
 </div>
-<div id='commands' class='column'><section class='part'><h2>Commands of each lane</h2><div id='scripts'></div></section></div>
+<div id='commands' class='column'><section id='told' class='part'><h2>Commands of each lane</h2><div id='scripts'></div></section></div>
 </main>
 <noscript>The turns of the trace are shown by a script, which is in this file.</noscript>
 ";
@@ -148,13 +152,17 @@ const SCRIPT: &str = "<script>
 'use strict';
 const at = id => document.getElementById(id);
 
-// The data has a line for each turn, and a turn is read when it is wanted. The first may be a later one of the trace: turns are counted from
-// there, and shown by their numbers in the trace.
-const lines = at('trace').textContent.split('\\n').filter(line => line.startsWith('{'));
-const count = lines.length, whole = Number(at('trace').dataset.turns);
-const readTurn = line => JSON.parse(line.endsWith(',') ? line.slice(0, -1) : line);
-const first = count > 0 ? readTurn(lines[0]).turn : 0;
+// The turns are those of a way through the states of a script (`ways`), where the page has these; else those of a trace. Its data has a line for
+// each turn, and a turn is read when it is wanted. The first may be a later one of the trace: turns are counted from there, and shown by their
+// numbers in the trace.
+const steered = typeof ways === 'undefined' ? null : ways;
+const lines = steered ? [] : at('trace').textContent.split('\\n').filter(line => line.startsWith('{'));
+const readLine = line => JSON.parse(line.endsWith(',') ? line.slice(0, -1) : line);
+const readTurn = index => steered ? steered.turnAt(index) : readLine(lines[index]);
+const whole = steered ? 0 : Number(at('trace').dataset.turns);
+const first = lines.length > 0 ? readLine(lines[0]).turn : 0;
 const numberOf = index => first + index;
+let count = lines.length;
 
 // What the words mean.
 const STEPS = {
@@ -209,8 +217,8 @@ const withCommand = (reply, own) => `${commandOf(reply, own)} = ${replyText(repl
 
 // What is learnt of the turns, one after another: the turn, its replies with their commands, the call that its step is of, the turn of another
 // lane that left what it finds, and those that find what it left. Later turns are learnt while the page is seen already.
-const laneIn = line => Number(line.split(',', 2)[1].slice(7));
-const lanes = Array.from(new Set(lines.map(laneIn))).sort((a, b) => a - b);
+const laneIn = line => parseInt(line.slice(line.indexOf(',') + 8), 10);
+const lanes = steered ? steered.lanes : Array.from(new Set(lines.map(laneIn))).sort((a, b) => a - b);
 const turns = [], said = [], calls = [], places = [], source = [], finders = [];
 const commands = new Map(lanes.map(lane => [lane, []]));
 const isStack = step => step.at.includes('.');
@@ -218,18 +226,21 @@ const wordOf = step => step.found.state || isStack(step) ? step.at : `link ${ste
 const writers = new Map(), calling = new Map(), seen = new Set();
 let tag = null;
 function learnReplies(turn) {
-  const before = turn.before.map(reply => withCommand(reply, null));
-  const after = turn.after.map((reply, index) => withCommand(reply, index === 0 ? turn.step : null));
-  for (const text of before.concat(after)) commands.get(turn.lane).push({ index: said.length, text });
-  for (const reply of turn.before.concat(turn.after)) if (reply.key) tag = reply.tag;
-  said.push({ before, after });
+  const list = commands.get(turn.lane), number = list.length, split = turn.before.length;
+  const replies = turn.before.concat(turn.after);
+  const ofScript = (reply, place) => `${steered.commandName(turn.lane, number + place)} = ${replyText(reply)}`;
+  const texts = replies.map((reply, place) => steered ? ofScript(reply, place) : withCommand(reply, place === split ? turn.step : null));
+  replies.forEach((reply, place) => list.push({ index: said.length, text: steered ? steered.commandText(turn.lane, number + place, reply) : texts[place] }));
+  for (const reply of replies) if (reply.key) tag = reply.tag;
+  said.push({ before: texts.slice(0, split), after: texts.slice(split) });
 }
 // A call begins with the first step of its lane behind a reply, and ends with the step that has one behind it. One that was under way before the
 // first turn that is here can lack steps; none goes on with an ENTER or a PUBLISH.
 function learnCall(index, turn) {
   const cut = first > 0 && !seen.has(turn.lane) && turn.step && !['ENTER', 'PUBLISH'].includes(turn.step.kind);
   if (turn.step) seen.add(turn.lane);
-  const call = turn.step ? calling.get(turn.lane) || { lane: turn.lane, steps: [], reply: null, cut } : null;
+  const name = steered && steered.commandName(turn.lane, commands.get(turn.lane).length - turn.after.length);
+  const call = turn.step ? calling.get(turn.lane) || { lane: turn.lane, steps: [], reply: null, cut, name } : null;
   calls.push(call);
   places.push(call ? call.steps.push(index) : 0);
   if (!call) return;
@@ -249,7 +260,7 @@ function learnSource(index, turn) {
   if (step.found.word !== step.left.word || step.kind === 'LINK') writers.set(wordOf(step), index);
 }
 function learn() {
-  const index = turns.length, turn = readTurn(lines[index]);
+  const index = turns.length, turn = readTurn(index);
   turns.push(turn);
   learnReplies(turn);
   learnCall(index, turn);
@@ -259,11 +270,23 @@ function learnTo(end) {
   while (turns.length < Math.min(end, count)) learn();
 }
 const isLearnt = () => turns.length === count;
+// Takes so many turns of a way in place of those that were learnt.
+function learnAnew(turnCount) {
+  for (const list of [turns, said, calls, places, source, finders, sought, ...commands.values()]) list.length = 0;
+  for (const each of [writers, calling, seen, shown]) each.clear();
+  at('rows').replaceChildren();
+  marks.length = 1;
+  tag = null;
+  setCount(turnCount);
+  learnTo(count);
+  find();
+}
 
 // The call of a step: its name, its key as far as its steps tell it, and how far it has come. An ENTER tells the generation of a key only where it
 // hits; a MARK and the LEAVE of a reference always do.
 const stepsOf = call => call.steps.map(index => turns[index].step);
 function nameOf(call) {
+  if (call.name) return call.name;
   if (call.reply) return commandOf(call.reply, turns[call.steps[call.steps.length - 1]].step);
   const steps = stepsOf(call), has = kind => steps.some(step => step.kind === kind);
   if (has('MARK')) return 'clear';
@@ -294,7 +317,7 @@ function progressOf(index) {
   const call = calls[index], step = places[index];
   if (call.cut) return `, step ${step} since turn ${numberOf(call.steps[0])}`;
   if (call.reply) return `, step ${step} of ${call.steps.length}`;
-  return `, step ${step}` + (!isLearnt() ? '' : numberOf(count) < whole ? `, no reply up to turn ${numberOf(count - 1)}` : ', unfinished');
+  return `, step ${step}` + (steered ? ', no reply yet' : !isLearnt() ? '' : numberOf(count) < whole ? `, no reply up to turn ${numberOf(count - 1)}` : ', unfinished');
 }
 const stepOfCall = index => nameOf(calls[index]) + progressOf(index);
 
@@ -345,7 +368,7 @@ function apply(known, turn) {
 }
 const marks = [copy(nothing())];
 function knownBehind(turn) {
-  const mark = Math.floor(turn / EVERY);
+  const mark = Math.max(0, Math.floor(turn / EVERY));
   learnTo(turn + 1);
   while (marks.length <= mark) {
     const running = copy(marks[marks.length - 1]);
@@ -366,7 +389,7 @@ function add(parent, name, text, kind) {
   return made;
 }
 function addLink(parent, turn, text) {
-  add(parent, 'a', text).href = `#${numberOf(turn)}`;
+  add(parent, 'a', text).href = addressOf(turn);
 }
 function addState(parent, value) {
   add(parent, 'span', value.state, `state ${value.state}`);
@@ -378,7 +401,10 @@ const pitch = Math.max(5, Math.min(18, Math.floor((innerWidth > 720 ? 190 : 90) 
 const columns = new Map(lanes.map((lane, index) => [lane, pitch * index + pitch / 2 + 2]));
 const width = pitch * lanes.length + 6;
 const shown = new Map();
-let now = 0;
+// Before the first turn of a way there is a choice too.
+const START = steered ? -1 : 0, NO_TURN = { lane: null, before: [], step: null, after: [] };
+let now = START;
+const turnNow = () => now < 0 ? NO_TURN : turns[now];
 function addValue(parent, value, other) {
   const line = add(parent, 'div');
   const parts = value.state ? [[value.state, other.state], [value.count, other.count], [`g${value.generation}`, `g${other.generation}`]] : [[value.link, other.link]];
@@ -446,7 +472,7 @@ function drawRows() {
     shown.delete(index);
   }
   for (let index = from; index < end; index++) showRow(index);
-  if (count > 0) showRow(now);
+  if (now >= 0 && count > 0) showRow(now);
   for (const [index, row] of shown) markRow(row, index);
   drawGraph(from, end);
 }
@@ -546,9 +572,10 @@ function addSources(parent, index) {
   }
 }
 function drawTurn() {
-  const turn = turns[now], parent = at('step');
-  at('turn').textContent = `Turn ${numberOf(now)}, lane ${turn.lane}` + (turn.step ? `: ${stepOfCall(now)}` : '');
+  const turn = turnNow(), parent = at('step');
   parent.replaceChildren();
+  at('turn').textContent = now < 0 ? 'Start: no lane has made a turn' : `Turn ${numberOf(now)}, lane ${turn.lane}` + (turn.step ? `: ${stepOfCall(now)}` : '');
+  if (now < 0) return;
   addReplies(parent, said[now].before);
   if (turn.step) {
     addChange(parent, turn.step);
@@ -628,7 +655,7 @@ function addPlace(body, place, of, step) {
   add(row, 'td', holdersOf(place, of));
 }
 function drawPlaces(known) {
-  const body = at('places'), step = turns[now].step;
+  const body = at('places'), step = turnNow().step;
   const here = step && step.left.state ? step.at : null;
   body.replaceChildren();
   const rank = ([place, of]) => place === here ? 0 : of.filling !== null || of.keeper !== null || of.held.size > 0 ? 1 : 2;
@@ -648,7 +675,7 @@ function chainText(known, first) {
   return parts.join(' → ');
 }
 function drawChains(known) {
-  const body = at('chains'), step = turns[now].step;
+  const body = at('chains'), step = turnNow().step;
   body.replaceChildren();
   const addChain = (title, first, changed) => {
     if (first === 'end') return;
@@ -671,7 +698,7 @@ function repliesUpTo(list, turn) {
   return from;
 }
 function addCommands(parent, lane) {
-  const list = commands.get(lane), done = repliesUpTo(list, now);
+  const replied = commands.get(lane), done = repliesUpTo(replied, now), list = steered ? replied.concat(steered.commandsBehind(lane, replied.length)) : replied;
   const from = Math.max(0, done - 4), end = Math.min(list.length, done + 2);
   add(parent, 'h3', isLearnt() ? `lane ${lane}: ${done} of ${list.length} replies` : `lane ${lane}: ${done} replies`);
   if (from > 0) add(parent, 'p', `${from} earlier`, 'faint');
@@ -695,16 +722,24 @@ function drawLegend() {
 }
 
 // Goes to a turn.
+function whereText() {
+  const all = `${first} to ${numberOf(count - 1)}`;
+  if (now < 0) return count > 0 ? `before turns ${all}` : 'at the start';
+  return `turn ${numberOf(now)} of ${all}` + (count < whole ? `, of ${whole} turns` : '');
+}
+function focusTurn() {
+  (shown.get(now) || at('list')).focus({ preventScroll: true });
+}
 function go(turn) {
-  if (count === 0) { at('where').textContent = whole > 0 ? `none of ${whole} turns` : 'no turns'; return; }
+  if (count === 0 && !steered) { at('where').textContent = whole > 0 ? `none of ${whole} turns` : 'no turns'; return; }
   const within = at('list').contains(document.activeElement);
-  now = Math.max(0, Math.min(turn, count - 1));
+  now = Math.max(START, Math.min(turn, count - 1));
   at('slider').value = numberOf(now);
-  at('where').textContent = `turn ${numberOf(now)} of ${first} to ${numberOf(count - 1)}` + (count < whole ? `, of ${whole} turns` : '');
+  at('where').textContent = whereText();
   drawState();
   scrollTo(now);
   drawRows();
-  if (within) shown.get(now).focus({ preventScroll: true });
+  if (within) focusTurn();
   tellFound();
   clearTimeout(keeping);
   keeping = setTimeout(keepTurn, 150);
@@ -717,6 +752,7 @@ function drawState() {
   drawPlaces(known);
   drawChains(known);
   drawCommands();
+  if (steered) steered.draw();
 }
 // Learns the rest of the turns bit by bit. What was drawn before is then drawn once more: an arrow, or the end of a call, may come much later.
 function learnOn() {
@@ -726,13 +762,15 @@ function learnOn() {
   for (const row of shown.values()) row.remove();
   shown.clear();
   drawRows();
-  if (within) shown.get(now).focus({ preventScroll: true });
+  if (within) focusTurn();
   drawState();
 }
-// The address keeps the turn: a little later, as browsers refuse many changes of it in a row.
+// The address keeps the turn, and the way: a little later, as browsers refuse many changes of it in a row.
 let keeping = 0;
+const addressOf = index => steered ? steered.addressOf(index) : `#${numberOf(index)}`;
+const turnInAddress = () => steered ? steered.turnInAddress() : (Number(location.hash.slice(1)) || first) - first;
 function keepTurn() {
-  try { history.replaceState(null, '', `#${numberOf(now)}`); } catch (refused) { }
+  try { history.replaceState(null, '', addressOf(now)); } catch (refused) { }
 }
 
 // The search: the text of a turn that it looks through, and what it finds. A number is found whole: turn 1 isn't turn 12.
@@ -763,9 +801,7 @@ function tellFound() {
   const index = matches.indexOf(now);
   at('found').textContent = wanted === '' ? '' : matches.length === 0 ? 'not found' : `${index < 0 ? '-' : index + 1} of ${matches.length}`;
 }
-// Goes to what is found first from where the search began; where nothing is, back to there.
-function search(words) {
-  wanted = words.trim().toLowerCase();
+function find() {
   matches = [];
   if (wanted !== '') {
     learnTo(count);
@@ -775,6 +811,11 @@ function search(words) {
     }
   }
   matching = new Set(matches);
+}
+// Goes to what is found first from where the search began; where nothing is, back to there.
+function search(words) {
+  wanted = words.trim().toLowerCase();
+  find();
   go(matches.find(index => index >= origin) ?? matches[0] ?? origin);
 }
 // The next that is found, or the one before; behind the last comes the first.
@@ -786,18 +827,17 @@ function seek(by) {
 // Leaves the search, which stays as it is, for the turn that is shown.
 function leaveSearch() {
   at('search').blur();
-  if (count > 0) shown.get(now).focus({ preventScroll: true });
+  if (count > 0) focusTurn();
 }
 
 function isDark() {
   const theme = document.documentElement.dataset.theme;
   return theme ? theme === 'dark' : matchMedia('(prefers-color-scheme: dark)').matches;
 }
-const turnInAddress = () => (Number(location.hash.slice(1)) || first) - first;
 const by = turns => () => go(now + turns);
 const KEYS = {
   ArrowLeft: by(-1), ArrowRight: by(1), ArrowUp: by(-1), ArrowDown: by(1), PageUp: by(-10), PageDown: by(10),
-  Home: () => go(0), End: () => go(count - 1), n: () => seek(1), N: () => seek(-1), '/': () => at('search').focus(),
+  Home: () => go(START), End: () => go(count - 1), n: () => seek(1), N: () => seek(-1), '/': () => at('search').focus(),
 };
 // Whether a key is for the words of the search: all are but those that leave them, and arrows that don't move the caret.
 function isWritten(event) {
@@ -811,19 +851,24 @@ function onKey(event) {
   const searching = event.target === at('search');
   if (searching && isWritten(event)) return;
   const leaves = searching && (event.key === 'Enter' || event.key === 'Escape');
-  const act = leaves ? leaveSearch : KEYS[event.key];
+  const act = leaves ? leaveSearch : KEYS[event.key] || (steered && steered.actOf(event.key));
   if (!act) return;
   event.preventDefault();
   act();
   if (searching) origin = now;
 }
+function setCount(turnCount) {
+  count = turnCount;
+  at('slider').max = numberOf(Math.max(START, count - 1));
+  at('rows').style.height = `${count * ROW}px`;
+}
 function begin() {
   if (document.title === '-') document.title = 'standard input';
-  at('name').textContent = `Trace: ${document.title}`;
-  at('slider').min = first;
-  at('slider').max = numberOf(Math.max(0, count - 1));
+  at('name').textContent = `${steered ? 'Outcomes' : 'Trace'}: ${document.title}`;
+  at('slider').min = numberOf(START);
+  setCount(count);
   at('slider').oninput = event => go(Number(event.target.value) - first);
-  at('first').onclick = () => go(0);
+  at('first').onclick = () => go(START);
   at('back').onclick = () => go(now - 1);
   at('next').onclick = () => go(now + 1);
   at('last').onclick = () => go(count - 1);
@@ -833,13 +878,13 @@ function begin() {
   at('search').oninput = event => search(event.target.value);
   at('search').onfocus = () => { origin = now; };
   at('list').onscroll = drawRows;
-  at('rows').style.height = `${count * ROW}px`;
   document.documentElement.style.setProperty('--graph', `${width}px`);
   document.onkeydown = onKey;
   onhashchange = () => { if (turnInAddress() !== now) go(turnInAddress()); };
   onresize = drawRows;
   drawTitles();
   drawLegend();
+  if (steered) steered.begin();
   const bar = document.querySelector('header');
   new ResizeObserver(() => document.documentElement.style.setProperty('--bar', `${bar.offsetHeight}px`)).observe(bar);
   go(turnInAddress());
