@@ -15,9 +15,9 @@ mod clears;
 mod late;
 mod owned;
 mod pools;
+mod posts;
 mod refused;
 mod returns;
-mod seats;
 mod shards;
 mod steps;
 mod words;
@@ -43,7 +43,7 @@ fn all() -> Vec<Scenario> {
         pools::all(),
         clears::all(),
         refused::all(),
-        seats::all(),
+        posts::all(),
     ];
     all.into_iter().flatten().collect()
 }

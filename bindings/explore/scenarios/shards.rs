@@ -1,4 +1,4 @@
-//! Who owns a shard: threads from their first create until they exit, and lanes in hand; shards that are full, and those that a pool opens.
+//! Who owns a shard: threads from their first create until they exit, and `Lane`s; shards that are full, and those that a pool opens.
 use crate::world::{
     key_of, look, number_of, published, release, settled, shape, unopened, Scenario, Tracked, World,
 };
@@ -328,7 +328,7 @@ fn by_lane(world: &World) {
     call("drop of a lane", || drop(lane));
 }
 
-/// A lane in hand, which two threads have one after the other, or neither at once.
+/// A `Lane`, which two threads have one after the other, or neither at once.
 struct Moved {
     world: World,
     lane: Mutex<Option<OwnedLane<Tracked>>>,

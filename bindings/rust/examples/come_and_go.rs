@@ -3,7 +3,7 @@
 //!
 //!     cargo run --release --example come_and_go -- WAY THREADS REQUESTS
 //!
-//! - `lanes`: each thread takes a lane in hand;
+//! - `lanes`: each thread takes a `Lane`;
 //! - `calls`: all threads call the pool;
 //! - `owned`: fillings and references are owned, and are sent to the other thread.
 //!
@@ -60,7 +60,7 @@ impl Board {
     }
 }
 
-/// The calls of one thread, by a lane in hand or without.
+/// The calls of one thread, by a `Lane` or without.
 struct Caller<'p> {
     pool: &'p Pool<String>,
     lane: Option<Lane<'p, String>>,

@@ -1,4 +1,4 @@
-//! Rounds of calls of a pool, as `bench` times those of lanes in hand. It reads no clock, but for `open`.
+//! Rounds of calls of a pool, as `bench` times those of `Lane`s. It reads no clock, but for `open`.
 //!
 //!     servers CASE THREADS ROUNDS
 //!

@@ -131,10 +131,24 @@ impl Buffer {
     /// Has these bytes alone. Where memory is refused, it is empty.
     #[inline]
     pub(crate) fn set(&mut self, bytes: &[u8]) -> Result<(), MemoryRefused> {
+        self.len = 0;
         if self.bytes.len() < bytes.len().saturating_add(TOLD) {
-            self.len = 0;
-            self.grow(bytes.len())?;
+            return self.set_apart(bytes);
         }
+        self.copy(bytes)
+    }
+
+    /// The same where there is less memory. Apart, for it is rare.
+    #[cold]
+    #[inline(never)]
+    fn set_apart(&mut self, bytes: &[u8]) -> Result<(), MemoryRefused> {
+        self.grow(bytes.len())?;
+        self.copy(bytes)
+    }
+
+    /// The same where there is memory.
+    #[inline(always)]
+    fn copy(&mut self, bytes: &[u8]) -> Result<(), MemoryRefused> {
         self.bytes[..bytes.len()].copy_from_slice(bytes);
         self.len = bytes.len();
         Ok(())
@@ -314,8 +328,8 @@ impl fmt::Write for Buffer {
 impl Extend<u8> for Buffer {
     fn extend<I: IntoIterator<Item = u8>>(&mut self, bytes: I) {
         let mut bytes = bytes.into_iter();
-        let has_room = self.reserve(bytes.size_hint().0).is_ok();
-        if !has_room || !bytes.all(|byte| self.append(&[byte]).is_ok()) {
+        let has_capacity = self.reserve(bytes.size_hint().0).is_ok();
+        if !has_capacity || !bytes.all(|byte| self.append(&[byte]).is_ok()) {
             handle_alloc_error(Layout::new::<u8>());
         }
     }

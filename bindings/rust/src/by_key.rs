@@ -6,7 +6,7 @@ use crate::key::Key;
 use crate::page::Place;
 use crate::pool::Pool;
 use crate::reference::Ref;
-use crate::share::Lent;
+use crate::share::Borrowed;
 use std::ptr::NonNull;
 
 impl<T: Clear> Pool<T> {
@@ -30,9 +30,9 @@ impl<T: Clear> Pool<T> {
     pub unsafe fn ref_from_key(&self, key: Key) -> Ref<'_, T> {
         // SAFETY: there is a reference, so that the pool has the key's place; and the caller makes it again once.
         unsafe {
-            let (lent, place) = self.lent_place(key);
+            let (borrowed, place) = self.borrowed_place(key);
             debug_assert!(place.as_ref().word.is_held(key.number()));
-            Ref::new(Held::of(place, key, lent))
+            Ref::new(Held::of(place, key, borrowed))
         }
     }
 
@@ -57,9 +57,9 @@ impl<T: Clear> Pool<T> {
     pub unsafe fn filling_from_key(&self, key: Key) -> Filling<'_, T> {
         // SAFETY: there is a filling, so that the pool has the key's place; and the caller makes it again once.
         unsafe {
-            let (lent, place) = self.lent_place(key);
+            let (borrowed, place) = self.borrowed_place(key);
             debug_assert!(place.as_ref().word.is_begun(key.number()));
-            Filling::new(Unpublished::of((place, key), lent))
+            Filling::new(Unpublished::of((place, key), borrowed))
         }
     }
 
@@ -67,11 +67,14 @@ impl<T: Clear> Pool<T> {
     ///
     /// The pool has the key's place.
     #[inline(always)]
-    unsafe fn lent_place(&self, key: Key) -> (Lent<'_, T>, NonNull<Place<T>>) {
+    unsafe fn borrowed_place(&self, key: Key) -> (Borrowed<'_, T>, NonNull<Place<T>>) {
         // SAFETY: so it has memory, and the place is there.
         unsafe {
-            let lent = self.lent().unwrap_unchecked();
-            (lent, NonNull::from(lent.place(key).unwrap_unchecked()))
+            let borrowed = self.borrowed().unwrap_unchecked();
+            (
+                borrowed,
+                NonNull::from(borrowed.place(key).unwrap_unchecked()),
+            )
         }
     }
 }

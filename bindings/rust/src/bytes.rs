@@ -2,24 +2,27 @@
 use crate::errors::MemoryRefused;
 use std::ops::{Deref, DerefMut};
 
+/// (All of its memory is written, so that it needs no more than a box: then a buffer has three words, and two places one line of the cache.)
 #[derive(Default)]
-pub(crate) struct Bytes(Vec<u8>);
+pub(crate) struct Bytes(Option<Box<[u8]>>);
 
 impl Bytes {
     /// None, without memory.
     pub(crate) const fn new() -> Bytes {
-        Bytes(Vec::new())
+        Bytes(None)
     }
 
     /// So many at least, and twice as many as before. Those that were there stay.
     pub(crate) fn grow(&mut self, least: usize) -> Result<(), MemoryRefused> {
-        let before = self.0.len();
+        let mut bytes = self.0.take().map_or_else(Vec::new, Vec::from);
+        let before = bytes.len();
         let count = least.max(2 * before);
-        self.0
-            .try_reserve_exact(count - before)
-            .map_err(|_| MemoryRefused)?;
-        self.0.resize(count, 0);
-        Ok(())
+        let reserved = bytes.try_reserve_exact(count - before);
+        if reserved.is_ok() {
+            bytes.resize(count, 0);
+        }
+        self.0 = Some(bytes.into_boxed_slice());
+        reserved.map_err(|_| MemoryRefused)
     }
 }
 
@@ -28,14 +31,14 @@ impl Deref for Bytes {
 
     #[inline(always)]
     fn deref(&self) -> &[u8] {
-        &self.0
+        self.0.as_deref().unwrap_or_default()
     }
 }
 
 impl DerefMut for Bytes {
     #[inline(always)]
     fn deref_mut(&mut self) -> &mut [u8] {
-        &mut self.0
+        self.0.as_deref_mut().unwrap_or_default()
     }
 }
 

@@ -30,7 +30,7 @@ impl<T> Inner<T> {
         ring: NonNull<Shard>,
         owner: Owner,
     ) -> Result<(Found<T>, NonNull<Shard>), CreateError> {
-        let (mut at, mut wanted) = (ring, Wanted::Room);
+        let (mut at, mut wanted) = (ring, Wanted::Free);
         loop {
             // SAFETY: the shard lives as long as this, the caller owns it, and `T` is the pool's type.
             match unsafe { at.as_ref().take_any(self.quota()) } {
@@ -80,12 +80,12 @@ impl<T> Inner<T> {
                 return Ok(found);
             }
         }
-        self.take_apart()
+        self.take_slow()
     }
 
     #[cold]
     #[inline(never)]
-    fn take_apart(&self) -> Result<Found<T>, CreateError> {
+    fn take_slow(&self) -> Result<Found<T>, CreateError> {
         let owner = Owner::numbered_thread();
         let (ring, is_kept) = self.ring(owner)?;
         // SAFETY: this thread owns it.
@@ -107,7 +107,7 @@ impl<T> Inner<T> {
         if let Some(ring) = known() {
             return Ok((ring, true));
         }
-        match self.join(owner, Wanted::Room) {
+        match self.join(owner, Wanted::Free) {
             Ok(ring) => Ok((ring, thread::keep(self.id(), self.registry(), ring))),
             // (Likewise: that call may have kept one.)
             Err(refused) => known().map(|ring| (ring, true)).ok_or(refused),
@@ -146,7 +146,7 @@ impl<T> Inner<T> {
                 return Ok(());
             }
             // SAFETY: the caller's.
-            at = unsafe { self.next_of(ring, at, owner, Wanted::Room) }?;
+            at = unsafe { self.next_of(ring, at, owner, Wanted::Free) }?;
         }
     }
 
@@ -236,7 +236,7 @@ impl<T: Clear> Inner<T> {
             Ok(_) => Ok(Some(NonNull::from(place))),
             Err(ended) => {
                 // SAFETY: what it has was claimed just now.
-                unsafe { self.finish_apart(place, key, ended) };
+                unsafe { self.finish_slow(place, key, ended) };
                 Ok(None)
             }
         }
@@ -278,7 +278,7 @@ impl<T: Clear> Inner<T> {
         let ended = reference.release_or_keep(&place.word.grid(self.shape(), 0));
         if let Ended::Kept(_) = ended {
             // SAFETY: it was claimed just now.
-            unsafe { self.finish_apart(place, key, ended) };
+            unsafe { self.finish_slow(place, key, ended) };
         }
     }
 
@@ -302,7 +302,7 @@ impl<T: Clear> Inner<T> {
     /// If the call claimed a place it was this one, that of the key.
     #[cold]
     #[inline(never)]
-    unsafe fn finish_apart(&self, place: &Place<T>, key: Key, ended: Ended) {
+    unsafe fn finish_slow(&self, place: &Place<T>, key: Key, ended: Ended) {
         if let Ended::Kept(claim) = ended {
             // SAFETY: the caller's.
             unsafe { self.finish(place, key, claim, Owner::thread()) };

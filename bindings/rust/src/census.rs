@@ -5,7 +5,7 @@ use crate::key::Key;
 use crate::page::{Page, GROUP, PAGES};
 use crate::pool::Pool;
 use crate::segments::{SEGMENTS, SHARDS};
-use crate::share::Lent;
+use crate::share::Borrowed;
 use crate::sync::Ordering::Relaxed;
 use crate::word::Look;
 use std::fmt;
@@ -85,12 +85,12 @@ impl<T: Clear> Pool<T> {
         let mut census = Census::default();
         let limits = self.limits();
         let mut shards = limits.shards;
-        if let Some(lent) = self.lent() {
+        if let Some(borrowed) = self.borrowed() {
             if !limits.is_fixed {
-                shards = lent.segments().all().map(|(_, it)| it.shards()).sum();
+                shards = borrowed.segments().all().map(|(_, it)| it.shards()).sum();
             }
             let mut walk = Walk::default();
-            while let Some((_, page)) = walk.next(&lent) {
+            while let Some((_, page)) = walk.next(&borrowed) {
                 census.count(page, limits.last_generation);
             }
         } else if !limits.is_fixed {
@@ -132,7 +132,7 @@ impl<T: Clear> Pool<T> {
     /// ```
     pub fn keys(&self) -> Keys<'_, T> {
         Keys {
-            lent: self.lent(),
+            borrowed: self.borrowed(),
             walk: Walk::default(),
             page: None,
             slot: 0,
@@ -190,7 +190,7 @@ impl Walk {
 
 /// A walk over the keys of a pool's published objects: see [`Pool::keys`].
 pub struct Keys<'p, T: Clear> {
-    lent: Option<Lent<'p, T>>,
+    borrowed: Option<Borrowed<'p, T>>,
     walk: Walk,
     page: Option<(u64, Page<T>)>,
     slot: usize,
@@ -200,7 +200,7 @@ impl<T: Clear> Iterator for Keys<'_, T> {
     type Item = Key;
 
     fn next(&mut self) -> Option<Key> {
-        let lent = self.lent?;
+        let borrowed = self.borrowed?;
         loop {
             if let Some((first, page)) = self.page {
                 while self.slot < page.places() {
@@ -208,13 +208,14 @@ impl<T: Clear> Iterator for Keys<'_, T> {
                     self.slot += 1;
                     // SAFETY: the page has this slot.
                     let place = unsafe { page.place(slot).as_ref() };
-                    if let Look::Present(generation) = place.word.look(lent.shape().last_generation)
+                    if let Look::Present(generation) =
+                        place.word.look(borrowed.shape().last_generation)
                     {
                         return Some(Key::at(first + slot as u64, generation));
                     }
                 }
             }
-            (self.page, self.slot) = (Some(self.walk.next(&lent)?), 0);
+            (self.page, self.slot) = (Some(self.walk.next(&borrowed)?), 0);
         }
     }
 }

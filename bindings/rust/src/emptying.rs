@@ -49,11 +49,11 @@ impl Emptying {
         let Ok(mut waiting) = self.waiting.try_borrow_mut() else {
             return false;
         };
-        let has_room = waiting.try_reserve(1).is_ok();
-        if has_room {
+        let has_capacity = waiting.try_reserve(1).is_ok();
+        if has_capacity {
             waiting.push((key, claim));
         }
-        has_room
+        has_capacity
     }
 
     /// The one that waits for longest.

@@ -4,7 +4,7 @@ use crate::clear::Clear;
 use crate::held::Unpublished;
 use crate::key::Key;
 use crate::reference::{OwnedRef, Ref};
-use crate::share::{Lent, Share};
+use crate::share::{Borrowed, Share};
 use std::borrow::{Borrow, BorrowMut};
 use std::fmt;
 use std::io;
@@ -28,7 +28,7 @@ use std::ops::{Deref, DerefMut};
 /// ```
 #[must_use = "a filling that is dropped isn't published"]
 pub struct Filling<'p, T: Clear = Buffer> {
-    begun: Unpublished<T, Lent<'p, T>>,
+    begun: Unpublished<T, Borrowed<'p, T>>,
 }
 
 /// A filling with a share of the pool's memory, in place of a borrow.
@@ -48,7 +48,7 @@ pub struct OwnedFilling<T: Clear = Buffer> {
 
 impl<'p, T: Clear> Filling<'p, T> {
     #[inline(always)]
-    pub(crate) fn new(begun: Unpublished<T, Lent<'p, T>>) -> Filling<'p, T> {
+    pub(crate) fn new(begun: Unpublished<T, Borrowed<'p, T>>) -> Filling<'p, T> {
         Filling { begun }
     }
 
@@ -70,7 +70,7 @@ impl<'p, T: Clear> Filling<'p, T> {
     /// The same filling, with a share of the pool's memory in place of the borrow.
     pub fn into_owned(self) -> OwnedFilling<T> {
         // SAFETY: the share is one of the pool that was borrowed.
-        OwnedFilling::new(unsafe { self.begun.kept_by(|lent| Share::of(*lent)) })
+        OwnedFilling::new(unsafe { self.begun.kept_by(|borrowed| Share::of(*borrowed)) })
     }
 }
 

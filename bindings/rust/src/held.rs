@@ -6,7 +6,7 @@ use crate::errors::GetError;
 use crate::inner::{Begun, Inner};
 use crate::key::Key;
 use crate::page::Place;
-use crate::share::Lent;
+use crate::share::Borrowed;
 use crate::Clear;
 use std::mem::ManuallyDrop;
 use std::ops::Deref;
@@ -99,7 +99,7 @@ impl<T: Clear, R: Keeper<T>> Held<T, R> {
     }
 }
 
-impl<'p, T: Clear> Held<T, Lent<'p, T>> {
+impl<'p, T: Clear> Held<T, Borrowed<'p, T>> {
     /// The object, by a reference that never ends.
     pub(crate) fn leak(self) -> &'p T {
         let this = ManuallyDrop::new(self);

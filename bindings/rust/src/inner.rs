@@ -140,15 +140,19 @@ impl<T> Inner<T> {
         unsafe { Page::of(at, number as usize, places) }
     }
 
-    /// The page of a key, which is open and has its slot.
+    /// The page of a key's place, and the slot there.
+    ///
+    /// # Safety
+    ///
+    /// The pool has the place.
     #[inline(always)]
-    fn page(&self, key: Key) -> Option<(Page<T>, usize)> {
+    unsafe fn page(&self, key: Key) -> (Page<T>, usize) {
         let number = place_of(key.number());
-        let at = self.segments.page(key.number())?;
-        // SAFETY: it is an open page of this pool.
+        // SAFETY: so its page is open.
+        let at = unsafe { self.segments.page(key.number()).unwrap_unchecked() };
+        // SAFETY: it is one of this pool.
         let page = unsafe { self.page_at(at, number / PAGE_NUMBERS % PAGES as u32) };
-        let slot = (number % PAGE_NUMBERS) as usize;
-        (slot < page.places()).then_some((page, slot))
+        (page, (number % PAGE_NUMBERS) as usize)
     }
 
     #[inline(always)]
@@ -171,10 +175,10 @@ impl<T> Inner<T> {
     /// The key is one of this pool, and its place is the caller's alone.
     #[inline(always)]
     pub(crate) unsafe fn give(&self, key: Key, by: Owner) {
-        // SAFETY: the key's place is there, so its shard and its page are.
+        // SAFETY: the key's place is there.
         unsafe {
             let shard = self.segments.shard(key.number());
-            let (page, slot) = self.page(key).unwrap_unchecked();
+            let (page, slot) = self.page(key);
             match shard.is_owned_by(by) {
                 true => shard.put(page, slot),
                 false => shard.give_back(page, slot),

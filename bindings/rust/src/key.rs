@@ -43,7 +43,7 @@ impl Key {
         };
         match keybits::Key::pack_tagged(tag, place, 1) {
             Some(key) => key.number(),
-            None => unreachable!("a key has room for each place of a pool"),
+            None => unreachable!("a key can name each place of a pool"),
         }
     }
 

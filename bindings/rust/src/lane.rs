@@ -1,4 +1,4 @@
-//! Lanes in hand.
+//! Shards that a program holds.
 use crate::buffer::Buffer;
 use crate::clear::Clear;
 use crate::errors::{CreateError, GetError};
@@ -10,14 +10,14 @@ use crate::put::Put;
 use crate::reference::Ref;
 use crate::registry::Wanted;
 use crate::shard::{Found, Shard};
-use crate::share::Lent;
+use crate::share::Borrowed;
 use crate::thread::Owner;
 use std::cell::Cell;
 use std::fmt;
 use std::ptr::NonNull;
 use std::sync::Arc;
 
-/// A shard in hand: places of its own for creates, which look for nothing that their thread has. It may move to another thread ([`Send`]), and
+/// A shard that the program holds: places of its own for creates, which look for nothing that their thread has. It may move to another thread ([`Send`]), and
 /// isn't shared (not [`Sync`]). What it creates, others get and clear; its shard goes to others when it is dropped.
 ///
 /// ```
@@ -38,7 +38,7 @@ use std::sync::Arc;
 /// # Ok::<(), pardz::CreateError>(())
 /// ```
 pub struct Lane<'p, T: Clear = Buffer> {
-    lent: Lent<'p, T>,
+    borrowed: Borrowed<'p, T>,
     owner: Owner,
     /// One of its ring of shards: that of which it had a place last.
     shard: Cell<NonNull<Shard>>,
@@ -47,7 +47,7 @@ pub struct Lane<'p, T: Clear = Buffer> {
 // SAFETY: it owns its shards by a number of its own, wherever it is.
 unsafe impl<T: Clear + Send + Sync> Send for Lane<'_, T> {}
 
-/// A lane in hand with a share of the pool, as by an [`Arc`]. What its calls give borrows it.
+/// A [`Lane`] with a share of the pool, as by an [`Arc`]. What its calls give borrows it.
 ///
 /// ```
 /// use pardz::{OwnedLane, Pool};
@@ -67,7 +67,7 @@ pub struct OwnedLane<T: Clear + 'static = Buffer> {
 }
 
 impl<T: Clear> Pool<T> {
-    /// A lane in hand.
+    /// A shard that the program holds.
     ///
     /// # Errors
     ///
@@ -85,17 +85,17 @@ impl<T: Clear> Pool<T> {
     /// # Ok::<(), Box<dyn std::error::Error>>(())
     /// ```
     pub fn lane(&self) -> Result<Lane<'_, T>, CreateError> {
-        let lent = self.lent_or_open()?;
+        let borrowed = self.borrowed_or_open()?;
         let owner = Owner::new();
-        let shard = lent.join(owner, Wanted::Any)?;
+        let shard = borrowed.join(owner, Wanted::Any)?;
         Ok(Lane {
-            lent,
+            borrowed,
             owner,
             shard: Cell::new(shard),
         })
     }
 
-    /// A lane in hand with a share of the pool.
+    /// A [`Lane`] with a share of the pool.
     ///
     /// # Errors
     ///
@@ -138,19 +138,21 @@ impl<'p, T: Clear> Lane<'p, T> {
         // SAFETY: the lane owns the shard, which is one of this pool.
         let found = match unsafe { self.shard.get().as_ref().take() } {
             Some(found) => found,
-            None => self.take_apart()?,
+            None => self.take_slow()?,
         };
         // SAFETY: it was taken just now, and is begun and filled once, in this pool.
-        let begun = unsafe { self.lent.begin(found, make, || self.owner) };
+        let begun = unsafe { self.borrowed.begin(found, make, || self.owner) };
         // SAFETY: as above.
-        Ok(Filling::new(unsafe { Unpublished::of(begun, self.lent) }))
+        Ok(Filling::new(unsafe {
+            Unpublished::of(begun, self.borrowed)
+        }))
     }
 
     #[cold]
     #[inline(never)]
-    fn take_apart(&self) -> Result<Found<T>, CreateError> {
+    fn take_slow(&self) -> Result<Found<T>, CreateError> {
         // SAFETY: the lane owns the shards of the ring.
-        let (found, shard) = unsafe { self.lent.take_of(self.shard.get(), self.owner) }?;
+        let (found, shard) = unsafe { self.borrowed.take_of(self.shard.get(), self.owner) }?;
         self.shard.set(shard);
         Ok(found)
     }
@@ -183,18 +185,18 @@ impl<'p, T: Clear> Lane<'p, T> {
     /// As there.
     #[inline(always)]
     pub fn try_get(&self, key: Key) -> Result<Option<Ref<'p, T>>, GetError> {
-        let Some(place) = self.lent.get(key)? else {
+        let Some(place) = self.borrowed.get(key)? else {
             return Ok(None);
         };
         // SAFETY: it was got just now, of this pool.
-        let held = unsafe { Held::of(place, key, self.lent) };
+        let held = unsafe { Held::of(place, key, self.borrowed) };
         Ok(Some(Ref::new(held)))
     }
 
     /// As [`Pool::clear`]. A place of the lane's own is the quickest to be used again.
     #[inline(always)]
     pub fn clear(&self, key: Key) -> bool {
-        self.lent.clear(key, || self.owner)
+        self.borrowed.clear(key, || self.owner)
     }
 
     /// As [`Pool::reserve`], for creates of this lane.
@@ -204,12 +206,12 @@ impl<'p, T: Clear> Lane<'p, T> {
     /// As there.
     pub fn reserve(&self, count: usize) -> Result<(), CreateError> {
         // SAFETY: the lane owns the shards of the ring.
-        unsafe { self.lent.provide(self.shard.get(), self.owner, count) }
+        unsafe { self.borrowed.provide(self.shard.get(), self.owner, count) }
     }
 }
 
 impl<T: Clear + 'static> OwnedLane<T> {
-    /// The lane, lent: for calls that aren't here.
+    /// The lane, borrowed: for calls that aren't here.
     #[inline(always)]
     pub fn lane(&self) -> &Lane<'_, T> {
         &self.lane
@@ -280,7 +282,7 @@ impl<T: Clear + 'static> fmt::Debug for OwnedLane<T> {
 
 impl<T: Clear> Drop for Lane<'_, T> {
     fn drop(&mut self) {
-        self.lent.leave(self.shard.get());
+        self.borrowed.leave(self.shard.get());
     }
 }
 

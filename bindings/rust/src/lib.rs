@@ -22,8 +22,8 @@
 //! calls only touch the word of the object's place, and the last reader to leave sets a bit of the place's shard. These calls are
 //! wait-free.
 //!
-//! The calls that wait for other threads are a create that takes a shard, the taking and dropping of a [`Lane`], and a thread's exit: they
-//! share one lock, and hold it for a bounded number of steps.
+//! The calls that wait for other threads are a create or a `reserve` that takes a shard, the taking and dropping of a [`Lane`], a thread's
+//! exit and the end of a pool: they share one lock, and hold it for a bounded number of steps.
 //!
 //! # What is pooled
 //!
@@ -61,7 +61,7 @@
 //!   threads.
 //! - [`OwnedFilling`] and [`OwnedRef`] ([`Pool::create_owned`], [`Pool::get_owned`]) are `'static`, for what outlives a scope, such as a
 //!   future across an `.await` or a message. They may outlive the pool.
-//! - A [`Lane`] ([`Pool::lane`]) is a shard in hand: its creates don't look up their thread's shard, and it may move from thread to thread.
+//! - A [`Lane`] ([`Pool::lane`]) is a shard that the program holds: its creates don't look up their thread's shard, and it may move from thread to thread.
 //!
 //! ```
 //! use pardz::{Key, OwnedRef, Pool};

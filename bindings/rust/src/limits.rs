@@ -19,7 +19,7 @@ use crate::pool::Pool;
 #[derive(Clone, Copy, Debug, PartialEq, Eq)]
 #[repr(C)]
 pub struct Shape {
-    /// How many shards there are, that is threads that create and lanes in hand at once: 1 to 64.
+    /// How many shards there are, that is threads that create and `Lane`s at once: 1 to 64.
     pub lanes: u32,
     /// Places of a shard's first page: 1, 2, 4, 8, 16, 32 or 64.
     pub first_page: u32,
@@ -32,6 +32,7 @@ pub struct Shape {
 }
 
 impl Default for Shape {
+    /// Four shards, of which each has pages of 32, 64 and 128 places.
     fn default() -> Shape {
         Shape {
             lanes: 4,
@@ -88,7 +89,7 @@ impl Limits {
         }
     }
 
-    /// With so many shards at most, from 1 on: so many threads that create, and lanes in hand, at once.
+    /// With so many shards at most, from 1 on: so many threads that create, and `Lane`s, at once.
     pub const fn shards(self, shards: usize) -> Limits {
         Limits { shards, ..self }
     }

@@ -8,7 +8,7 @@ use crate::inner::Inner;
 use crate::key::Key;
 use crate::limits::Limits;
 use crate::reference::{OwnedRef, Ref};
-use crate::share::{Lent, Share};
+use crate::share::{Borrowed, Share};
 use crate::sync::{AtomicPtr, Ordering::*};
 use crate::thread::Owner;
 use std::fmt;
@@ -76,23 +76,23 @@ impl<T: Clear> Pool<T> {
 
     /// Its memory, where there is any.
     #[inline(always)]
-    pub(crate) fn lent(&self) -> Option<Lent<'_, T>> {
+    pub(crate) fn borrowed(&self) -> Option<Borrowed<'_, T>> {
         let inner = NonNull::new(self.inner.load(Acquire))?;
         // SAFETY: it is this pool's, which is borrowed.
-        Some(unsafe { Lent::of(inner) })
+        Some(unsafe { Borrowed::of(inner) })
     }
 
     #[inline(always)]
-    pub(crate) fn lent_or_open(&self) -> Result<Lent<'_, T>, CreateError> {
-        match self.lent() {
-            Some(lent) => Ok(lent),
-            None => self.open_apart(),
+    pub(crate) fn borrowed_or_open(&self) -> Result<Borrowed<'_, T>, CreateError> {
+        match self.borrowed() {
+            Some(borrowed) => Ok(borrowed),
+            None => self.open_slow(),
         }
     }
 
     #[cold]
     #[inline(never)]
-    fn open_apart(&self) -> Result<Lent<'_, T>, CreateError> {
+    fn open_slow(&self) -> Result<Borrowed<'_, T>, CreateError> {
         let opened = Inner::open(self.limits)?;
         let placed = self
             .inner
@@ -102,7 +102,7 @@ impl<T: Clear> Pool<T> {
             // SAFETY: nobody knows of this one.
             unsafe { Inner::close(opened) };
         }
-        self.lent().ok_or(CreateError::Memory)
+        self.borrowed().ok_or(CreateError::Memory)
     }
 
     pub(crate) fn limits(&self) -> &Limits {
@@ -171,10 +171,10 @@ impl<T: Clear> Pool<T> {
     /// ```
     #[inline(always)]
     pub fn create_with(&self, make: impl FnOnce() -> T) -> Result<Filling<'_, T>, CreateError> {
-        let lent = self.lent_or_open()?;
-        let begun = lent.create(make)?;
+        let borrowed = self.borrowed_or_open()?;
+        let begun = borrowed.create(make)?;
         // SAFETY: it was begun just now, in this pool.
-        Ok(Filling::new(unsafe { Unpublished::of(begun, lent) }))
+        Ok(Filling::new(unsafe { Unpublished::of(begun, borrowed) }))
     }
 
     /// As [`create`](Pool::create), of a filling that may outlive the pool.
@@ -201,10 +201,10 @@ impl<T: Clear> Pool<T> {
     where
         T: Default,
     {
-        let lent = self.lent_or_open()?;
-        let begun = lent.create(T::default)?;
+        let borrowed = self.borrowed_or_open()?;
+        let begun = borrowed.create(T::default)?;
         // SAFETY: it was begun just now, in the pool of the share.
-        let begun = unsafe { Unpublished::of(begun, Share::of(lent)) };
+        let begun = unsafe { Unpublished::of(begun, Share::of(borrowed)) };
         Ok(OwnedFilling::new(begun))
     }
 
@@ -254,14 +254,14 @@ impl<T: Clear> Pool<T> {
     /// ```
     #[inline(always)]
     pub fn try_get(&self, key: Key) -> Result<Option<Ref<'_, T>>, GetError> {
-        let Some(lent) = self.lent() else {
+        let Some(borrowed) = self.borrowed() else {
             return Ok(None);
         };
-        let Some(place) = lent.get(key)? else {
+        let Some(place) = borrowed.get(key)? else {
             return Ok(None);
         };
         // SAFETY: it is a reference that was got just now, of this pool.
-        let held = unsafe { Held::of(place, key, lent) };
+        let held = unsafe { Held::of(place, key, borrowed) };
         Ok(Some(Ref::new(held)))
     }
 
@@ -294,14 +294,14 @@ impl<T: Clear> Pool<T> {
     /// As of [`try_get`](Pool::try_get).
     #[inline(always)]
     pub fn try_get_owned(&self, key: Key) -> Result<Option<OwnedRef<T>>, GetError> {
-        let Some(lent) = self.lent() else {
+        let Some(borrowed) = self.borrowed() else {
             return Ok(None);
         };
-        let Some(place) = lent.get(key)? else {
+        let Some(place) = borrowed.get(key)? else {
             return Ok(None);
         };
         // SAFETY: it is a reference that was got just now, of the pool of the share.
-        let held = unsafe { Held::of(place, key, Share::of(lent)) };
+        let held = unsafe { Held::of(place, key, Share::of(borrowed)) };
         Ok(Some(OwnedRef::new(held)))
     }
 
@@ -316,7 +316,8 @@ impl<T: Clear> Pool<T> {
     /// ```
     #[inline]
     pub fn contains(&self, key: Key) -> bool {
-        self.lent().is_some_and(|lent| lent.contains(key))
+        self.borrowed()
+            .is_some_and(|borrowed| borrowed.contains(key))
     }
 
     /// Clears a key: no get finds it any more. Answers whether this call did: `false` where the key isn't published, or is cleared
@@ -331,8 +332,8 @@ impl<T: Clear> Pool<T> {
     /// ```
     #[inline(always)]
     pub fn clear(&self, key: Key) -> bool {
-        self.lent()
-            .is_some_and(|lent| lent.clear(key, Owner::thread))
+        self.borrowed()
+            .is_some_and(|borrowed| borrowed.clear(key, Owner::thread))
     }
 
     /// Sees to it that the calling thread can create so many objects without a page that is opened for it: as long as nobody else of the thread's
@@ -349,7 +350,7 @@ impl<T: Clear> Pool<T> {
     /// # Ok::<(), pardz::CreateError>(())
     /// ```
     pub fn reserve(&self, count: usize) -> Result<(), CreateError> {
-        self.lent_or_open()?.reserve(count)
+        self.borrowed_or_open()?.reserve(count)
     }
 }
 

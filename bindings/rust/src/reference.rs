@@ -4,7 +4,7 @@ use crate::clear::Clear;
 use crate::errors::GetError;
 use crate::held::Held;
 use crate::key::Key;
-use crate::share::{Lent, Share};
+use crate::share::{Borrowed, Share};
 use std::borrow::Borrow;
 use std::cmp::Ordering;
 use std::fmt;
@@ -36,7 +36,7 @@ use std::panic::{RefUnwindSafe, UnwindSafe};
 /// # Ok::<(), Box<dyn std::error::Error>>(())
 /// ```
 pub struct Ref<'p, T: Clear = Buffer> {
-    held: Held<T, Lent<'p, T>>,
+    held: Held<T, Borrowed<'p, T>>,
 }
 
 /// A reference with a share of the pool's memory. Where the pool is dropped before, its memory and its objects go with the last owned
@@ -68,7 +68,7 @@ pub struct OwnedRef<T: Clear = Buffer> {
 
 impl<'p, T: Clear> Ref<'p, T> {
     #[inline(always)]
-    pub(crate) fn new(held: Held<T, Lent<'p, T>>) -> Ref<'p, T> {
+    pub(crate) fn new(held: Held<T, Borrowed<'p, T>>) -> Ref<'p, T> {
         Ref { held }
     }
 
@@ -102,7 +102,7 @@ impl<'p, T: Clear> Ref<'p, T> {
     /// ```
     pub fn into_owned(self) -> OwnedRef<T> {
         // SAFETY: the share is one of the pool that was borrowed.
-        OwnedRef::new(unsafe { self.held.kept_by(|lent| Share::of(*lent)) })
+        OwnedRef::new(unsafe { self.held.kept_by(|borrowed| Share::of(*borrowed)) })
     }
 }
 

@@ -12,7 +12,7 @@ pub(crate) struct Registry(Mutex<State>);
 
 pub(crate) struct State {
     is_open: bool,
-    /// Those that may have room, the last that was left first; and those that had none.
+    /// Those that may have a free place, the last that was left first; and those that had none.
     free: List,
     full: List,
     /// How many shards there are.
@@ -22,10 +22,10 @@ pub(crate) struct State {
 /// Which shard somebody wants.
 #[derive(Clone, Copy, PartialEq, Eq)]
 pub(crate) enum Wanted {
-    /// One with room, or a new one; a full one too.
+    /// One that may have a free place, or a new one; a full one too.
     Any,
-    /// One with room, or a new one.
-    Room,
+    /// One that may have a free place, or a new one.
+    Free,
     /// One with free places in the pages that it has.
     Places,
 }
@@ -69,7 +69,7 @@ impl Registry {
                 let shard = unsafe { &*at };
                 let next = shard.next();
                 shard.disown();
-                let list = match shard.has_room() {
+                let list = match shard.may_have_free_places() {
                     true => &mut state.free,
                     false => &mut state.full,
                 };
@@ -85,11 +85,11 @@ impl Registry {
 }
 
 impl State {
-    /// A shard of this kind that nobody owned: one of those that were left with room first, the last at first.
+    /// A shard of this kind that nobody owned: one of those that were left with free places first, the last at first.
     pub(crate) fn take(&mut self, owner: Owner, wanted: Wanted) -> Option<*const Shard> {
         let is_wanted = match wanted {
             Wanted::Any => |_: &Shard| true,
-            Wanted::Room => Shard::has_room,
+            Wanted::Free => Shard::may_have_free_places,
             Wanted::Places => Shard::has_places,
         };
         // SAFETY: the pool is open, as one of its calls is made.

@@ -1,6 +1,6 @@
 //! Segments: the tables by which a key leads to its place.
 //!
-//! A segment has room for the pages of 64 shards, and for the shards. All segments are alike, and made of zeros: null pointers. A key's tag
+//! A segment holds the tables of pages of 64 shards, and the shards. All segments are alike, and made of zeros: null pointers. A key's tag
 //! is its segment's number. What a table points to stays until the pool's memory goes, so that whoever finds it may use it as long as he
 //! keeps that.
 use crate::erased::keybits::{place_of, shard_of, tag_of, MOST_LANES, PAGE_NUMBERS};
@@ -14,7 +14,7 @@ use std::ptr::{self, NonNull};
 /// How many segments a pool may have.
 pub(crate) const SEGMENTS: usize = 256;
 
-/// How many shards a segment has room for.
+/// How many shards a segment holds.
 pub(crate) const SHARDS: usize = MOST_LANES as usize;
 
 pub(crate) struct Segment {

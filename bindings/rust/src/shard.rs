@@ -1,6 +1,6 @@
 //! Shards: which places are free.
 //!
-//! A shard has an owner, a thread or a lane in hand, who alone takes places of it. A place that the owner gives back is a bit in a word of
+//! A shard has an owner, a thread or a `Lane`, who alone takes places of it. A place that the owner gives back is a bit in a word of
 //! his own. Anybody else sets the bit in the group's word for all threads, and then sees to it that the group is noted in the page's
 //! *summary*, the word of groups with such bits: that never waits. The owner collects by taking the summary out first and the groups' words
 //! after it. All of these steps stand in one order, so that a bit which the owner missed has its group noted behind his step: no place is
@@ -22,7 +22,7 @@ pub(crate) type Pages = [AtomicPtr<u8>; PAGES];
 
 /// What several threads change doesn't share lines of the cache with what one changes alone.
 #[repr(align(128))]
-struct Apart<T>(T);
+struct CachePadded<T>(T);
 
 /// A shard. Objects of all types have the same kind: each generic call is for the type of the pool.
 pub(crate) struct Shard {
@@ -30,13 +30,13 @@ pub(crate) struct Shard {
     number: u8,
     pages: NonNull<Pages>,
     owner: AtomicU64,
-    own: Apart<Owned>,
+    own: CachePadded<OwnersPart>,
     /// For each page, the groups of which places were given back by others.
-    summaries: Apart<[AtomicU64; PAGES]>,
+    summaries: CachePadded<[AtomicU64; PAGES]>,
 }
 
 /// What the owner has. (A `Cell` is never borrowed, so it doesn't matter what else this thread does meanwhile.)
-struct Owned {
+struct OwnersPart {
     /// The current group, of which the next place is taken if it has a free one: its bits, its first place, the first key of that.
     bits: Cell<NonNull<Own>>,
     first: Cell<NonNull<u8>>,
@@ -71,7 +71,7 @@ impl Shard {
             number,
             pages,
             owner: AtomicU64::new(Owner::NOBODY),
-            own: Apart(Owned {
+            own: CachePadded(OwnersPart {
                 bits: Cell::new(NonNull::dangling()),
                 first: Cell::new(NonNull::dangling()),
                 first_key: Cell::new(0),
@@ -81,7 +81,7 @@ impl Shard {
                 opened: Cell::new(0),
                 next: Cell::new(ptr::null()),
             }),
-            summaries: Apart([const { AtomicU64::new(0) }; PAGES]),
+            summaries: CachePadded([const { AtomicU64::new(0) }; PAGES]),
         })?;
         shard.turn_to_none();
         Ok(shard)
@@ -95,7 +95,7 @@ impl Shard {
     }
 
     #[inline(always)]
-    fn own(&self) -> &Owned {
+    fn own(&self) -> &OwnersPart {
         sync::writes(&self.own, "what a shard's owner has");
         &self.own.0
     }
@@ -134,7 +134,7 @@ impl Shard {
     }
 
     /// Whether a create may find a place in it, or has to look at least. By the owner, or who has the registry's lock.
-    pub(crate) fn has_room(&self) -> bool {
+    pub(crate) fn may_have_free_places(&self) -> bool {
         self.own().opened.get() < self.shape.pages as usize || self.has_places()
     }
 

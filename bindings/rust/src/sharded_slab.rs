@@ -44,7 +44,7 @@ use crate::errors::GetError;
 use crate::held::{Held, Unpublished};
 use crate::inner::Inner;
 use crate::limits::Limits;
-use crate::share::Lent;
+use crate::share::Borrowed;
 use std::fmt;
 use std::marker::PhantomData;
 use std::ops::{Deref, DerefMut};
@@ -125,10 +125,10 @@ impl<T: Clear + Default, C: Config> Pool<T, C> {
     /// ```
     #[inline(always)]
     pub fn create(&self) -> Option<RefMut<'_, T, C>> {
-        let lent = self.inner.lent_or_open().ok()?;
-        let begun = lent.create(T::default).ok()?;
+        let borrowed = self.inner.borrowed_or_open().ok()?;
+        let begun = borrowed.create(T::default).ok()?;
         // SAFETY: it was begun just now, in this pool.
-        let filling = unsafe { Unpublished::of(begun, lent) };
+        let filling = unsafe { Unpublished::of(begun, borrowed) };
         Some(RefMut {
             filling: Some(filling),
             config: PhantomData,
@@ -150,9 +150,14 @@ impl<T: Clear + Default, C: Config> Pool<T, C> {
     /// ```
     #[inline(always)]
     pub fn create_owned(self: Arc<Self>) -> Option<OwnedRefMut<T, C>> {
-        let begun = self.inner.lent_or_open().ok()?.create(T::default).ok()?;
+        let begun = self
+            .inner
+            .borrowed_or_open()
+            .ok()?
+            .create(T::default)
+            .ok()?;
         // SAFETY: it was begun just now, in this pool.
-        let filling = unsafe { Unpublished::of(begun, Kept::of(self)?) };
+        let filling = unsafe { Unpublished::of(begun, ByArc::of(self)?) };
         Some(OwnedRefMut {
             filling: Some(filling),
             config: PhantomData,
@@ -170,10 +175,10 @@ impl<T: Clear + Default, C: Config> Pool<T, C> {
     #[inline(always)]
     pub fn get(&self, key: usize) -> Option<Ref<'_, T, C>> {
         let key = key_of::<C>(key)?;
-        let lent = self.inner.lent()?;
-        let place = GetError::raised(lent.get(key))?;
+        let borrowed = self.inner.borrowed()?;
+        let place = GetError::raised(borrowed.get(key))?;
         // SAFETY: it is a reference that was got just now, of this pool.
-        let item = unsafe { Held::of(place, key, lent) };
+        let item = unsafe { Held::of(place, key, borrowed) };
         Some(Ref {
             item,
             config: PhantomData,
@@ -184,10 +189,10 @@ impl<T: Clear + Default, C: Config> Pool<T, C> {
     #[inline(always)]
     pub fn get_owned(self: Arc<Self>, key: usize) -> Option<OwnedRef<T, C>> {
         let key = key_of::<C>(key)?;
-        let place = self.inner.lent()?.get(key);
+        let place = self.inner.borrowed()?.get(key);
         let place = GetError::raised(place)?;
         // SAFETY: it is a reference that was got just now, of this pool.
-        let item = unsafe { Held::of(place, key, Kept::of(self)?) };
+        let item = unsafe { Held::of(place, key, ByArc::of(self)?) };
         Some(OwnedRef {
             item,
             config: PhantomData,
@@ -213,48 +218,48 @@ impl<T: Clear + Default + fmt::Debug, C: Config> fmt::Debug for Pool<T, C> {
 
 /// A reference to a published object.
 pub struct Ref<'p, T: Clear + Default, C: Config = DefaultConfig> {
-    item: Held<T, Lent<'p, T>>,
+    item: Held<T, Borrowed<'p, T>>,
     config: PhantomData<fn() -> C>,
 }
 
 /// An object that is being filled. It is published when it is dropped.
 pub struct RefMut<'p, T: Clear + Default, C: Config = DefaultConfig> {
-    filling: Option<Unpublished<T, Lent<'p, T>>>,
+    filling: Option<Unpublished<T, Borrowed<'p, T>>>,
     config: PhantomData<fn() -> C>,
 }
 
 /// A reference with a share of the pool.
 pub struct OwnedRef<T: Clear + Default, C: Config = DefaultConfig> {
-    item: Held<T, Kept<T, C>>,
+    item: Held<T, ByArc<T, C>>,
     config: PhantomData<fn() -> C>,
 }
 
 /// An object that is being filled, with a share of the pool. It is published when it is dropped.
 pub struct OwnedRefMut<T: Clear + Default, C: Config = DefaultConfig> {
-    filling: Option<Unpublished<T, Kept<T, C>>>,
+    filling: Option<Unpublished<T, ByArc<T, C>>>,
     config: PhantomData<fn() -> C>,
 }
 
 /// A share of a pool by its `Arc`, which keeps the pool's memory.
-struct Kept<T: Clear + Default, C: Config> {
+struct ByArc<T: Clear + Default, C: Config> {
     inner: NonNull<Inner<T>>,
     _pool: Arc<Pool<T, C>>,
 }
 
 // SAFETY: as the `Arc`, and a reference to the memory.
-unsafe impl<T: Clear + Default + Send + Sync, C: Config> Send for Kept<T, C> {}
+unsafe impl<T: Clear + Default + Send + Sync, C: Config> Send for ByArc<T, C> {}
 // SAFETY: as above.
-unsafe impl<T: Clear + Default + Send + Sync, C: Config> Sync for Kept<T, C> {}
+unsafe impl<T: Clear + Default + Send + Sync, C: Config> Sync for ByArc<T, C> {}
 
-impl<T: Clear + Default, C: Config> Kept<T, C> {
+impl<T: Clear + Default, C: Config> ByArc<T, C> {
     /// None where the pool has no memory yet.
-    fn of(pool: Arc<Pool<T, C>>) -> Option<Kept<T, C>> {
-        let inner = NonNull::from(&*pool.inner.lent()?);
-        Some(Kept { inner, _pool: pool })
+    fn of(pool: Arc<Pool<T, C>>) -> Option<ByArc<T, C>> {
+        let inner = NonNull::from(&*pool.inner.borrowed()?);
+        Some(ByArc { inner, _pool: pool })
     }
 }
 
-impl<T: Clear + Default, C: Config> Deref for Kept<T, C> {
+impl<T: Clear + Default, C: Config> Deref for ByArc<T, C> {
     type Target = Inner<T>;
 
     #[inline(always)]

@@ -40,7 +40,7 @@ impl Stripes {
 }
 
 impl Stripe {
-    /// (2^62 shares are more than memory has room for, but for those that are forgotten: at one a nanosecond, after a century.)
+    /// (2^62 shares are more than fit into memory, but for those that are forgotten: at one a nanosecond, after a century.)
     #[inline(always)]
     fn add(&self) {
         self.0.fetch_add(ONE, Relaxed);
@@ -63,39 +63,39 @@ impl Stripe {
 }
 
 /// A borrow of a pool, which keeps its memory.
-pub(crate) struct Lent<'p, T> {
+pub(crate) struct Borrowed<'p, T> {
     inner: NonNull<Inner<T>>,
     of: PhantomData<&'p Inner<T>>,
 }
 
 // SAFETY: as a reference to the memory.
-unsafe impl<T> Send for Lent<'_, T> where Inner<T>: Sync {}
+unsafe impl<T> Send for Borrowed<'_, T> where Inner<T>: Sync {}
 // SAFETY: as above.
-unsafe impl<T> Sync for Lent<'_, T> where Inner<T>: Sync {}
+unsafe impl<T> Sync for Borrowed<'_, T> where Inner<T>: Sync {}
 
-impl<T> Lent<'_, T> {
+impl<T> Borrowed<'_, T> {
     /// # Safety
     ///
-    /// The pool has this memory, and doesn't end as long as it is lent.
+    /// The pool has this memory, and doesn't end as long as it is borrowed.
     #[inline(always)]
     pub(crate) unsafe fn of(inner: NonNull<Inner<T>>) -> Self {
-        Lent {
+        Borrowed {
             inner,
             of: PhantomData,
         }
     }
 }
 
-impl<T> Clone for Lent<'_, T> {
+impl<T> Clone for Borrowed<'_, T> {
     #[inline(always)]
     fn clone(&self) -> Self {
         *self
     }
 }
 
-impl<T> Copy for Lent<'_, T> {}
+impl<T> Copy for Borrowed<'_, T> {}
 
-impl<T> Deref for Lent<'_, T> {
+impl<T> Deref for Borrowed<'_, T> {
     type Target = Inner<T>;
 
     #[inline(always)]
@@ -119,11 +119,11 @@ unsafe impl<T> Sync for Share<T> where Inner<T>: Sync {}
 impl<T> Share<T> {
     /// A share by who borrows the pool.
     #[inline(always)]
-    pub(crate) fn of(lent: Lent<'_, T>) -> Share<T> {
-        let stripe = lent.stripes().of_thread();
+    pub(crate) fn of(borrowed: Borrowed<'_, T>) -> Share<T> {
+        let stripe = borrowed.stripes().of_thread();
         stripe.add();
         Share {
-            inner: lent.inner,
+            inner: borrowed.inner,
             stripe: NonNull::from(stripe),
         }
     }

@@ -11,7 +11,7 @@ use crate::sync::Counter;
 use std::cell::{Cell, RefCell};
 use std::ptr::NonNull;
 
-/// Who may own a shard: a thread or a lane in hand, by a number that nobody else ever has.
+/// Who may own a shard: a thread or a `Lane`, by a number that nobody else ever has.
 #[derive(Clone, Copy)]
 pub(crate) struct Owner(u64);
 
@@ -30,7 +30,7 @@ thread_local! {
 impl Owner {
     pub(crate) const NOBODY: u64 = u64::MAX;
 
-    /// A number for a lane in hand.
+    /// A number for a `Lane`.
     pub(crate) fn new() -> Owner {
         static NEXT: Counter = Counter::from_one();
         Owner(NEXT.next())
@@ -116,9 +116,10 @@ pub(crate) fn turn_to(pool: u64, shard: NonNull<Shard>) {
 
 /// Keeps a shard, which is a ring alone, until the thread exits. False if it exits already, or its list found no memory.
 pub(crate) fn keep(pool: u64, registry: &Counted<Registry>, shard: NonNull<Shard>) -> bool {
-    let has_room = || ALL.try_with(|all| all.borrow().0.len() < all.borrow().0.capacity());
+    let may_have_free_places =
+        || ALL.try_with(|all| all.borrow().0.len() < all.borrow().0.capacity());
     loop {
-        match has_room() {
+        match may_have_free_places() {
             Ok(true) => break,
             Ok(false) if grow().is_ok() => {}
             _ => return false,
@@ -130,14 +131,14 @@ pub(crate) fn keep(pool: u64, registry: &Counted<Registry>, shard: NonNull<Shard
     kept.is_ok()
 }
 
-/// Moves the list to memory with room for twice as many pools as are there still, without those that are gone.
+/// Moves the list to memory for twice as many pools as are there still, without those that are gone.
 fn grow() -> Result<(), MemoryRefused> {
     let open = ALL.with(|all| all.borrow().open());
-    let mut roomy = Vec::new();
-    roomy
+    let mut larger = Vec::new();
+    larger
         .try_reserve_exact(2 * open + 16)
         .map_err(|_| MemoryRefused)?;
-    let gone = ALL.with(|all| all.borrow_mut().move_to(roomy));
+    let gone = ALL.with(|all| all.borrow_mut().move_to(larger));
     drop(gone);
     Ok(())
 }
@@ -153,7 +154,7 @@ impl Memberships {
         Some(&self.0[at])
     }
 
-    /// There is room for it. A share of the registry comes back that isn't needed.
+    /// The list's memory suffices for it. A share of the registry comes back that isn't needed.
     fn add(
         &mut self,
         pool: u64,
@@ -178,8 +179,8 @@ impl Memberships {
         None
     }
 
-    /// Goes on in other memory, if there is room for all. What comes back are the pools that are gone, and the memory.
-    fn move_to(&mut self, mut roomy: Vec<Membership>) -> Vec<Membership> {
+    /// Goes on in other memory, if all fit. What comes back are the pools that are gone, and the memory.
+    fn move_to(&mut self, mut larger: Vec<Membership>) -> Vec<Membership> {
         let mut open = 0;
         for at in 0..self.0.len() {
             if self.0[at].registry.is_open() {
@@ -187,10 +188,10 @@ impl Memberships {
                 open += 1;
             }
         }
-        if open >= roomy.capacity() {
-            return roomy;
+        if open >= larger.capacity() {
+            return larger;
         }
-        roomy.extend(self.0.drain(..open));
-        std::mem::replace(&mut self.0, roomy)
+        larger.extend(self.0.drain(..open));
+        std::mem::replace(&mut self.0, larger)
     }
 }

@@ -80,7 +80,7 @@ fn fills(most: usize, publish: impl Fn(String) -> Option<Key>) -> usize {
     keys.len()
 }
 
-/// By owned handles; by the thread's shard; by lanes in hand; and by clones.
+/// By owned handles; by the thread's shard; by `Lane`s; and by clones.
 fn all_ways(most: usize) {
     for _ in 0..3 {
         let by_owned = |text: String| {

@@ -6,7 +6,7 @@ mod late;
 mod payloads;
 
 use common::{alone, at_once, limit};
-use pardz::{Clear, Key, OwnedRef, Pool, Ref, Shape};
+use pardz::{Buffer, Clear, Key, OwnedRef, Pool, Ref, Shape};
 use payloads::panics;
 use std::cell::{Cell, RefCell};
 use std::collections::VecDeque;
@@ -153,4 +153,21 @@ fn clones_of_many_threads() {
     assert_eq!(pool.census().marked, 1);
     drop(kept);
     assert_eq!(pool.census().marked, 0);
+}
+
+/// A buffer that is extended by more than there is memory for ends the process, as a vector does.
+#[test]
+#[should_panic(expected = "signal: 6")]
+fn an_extension_beyond_memory() {
+    struct Many;
+    impl Iterator for Many {
+        type Item = u8;
+        fn next(&mut self) -> Option<u8> {
+            None
+        }
+        fn size_hint(&self) -> (usize, Option<usize>) {
+            (usize::MAX / 2, None)
+        }
+    }
+    alone("an_extension_beyond_memory", || Buffer::new().extend(Many));
 }

@@ -299,6 +299,9 @@ fn a_pool_of_few_places_makes_few_shards() {
     let limits = Limits::new().first_tag(254);
     let wrong = limits.first_tag(256).open::<String>().err();
     assert_eq!(wrong, Some(OpenError::Shape(Field::Tag)));
+    let wrong = limits.tags(0).open::<String>().err();
+    assert_eq!(wrong, Some(OpenError::Shape(Field::Tag)));
+    assert!(limits.tags(1).open::<String>().is_ok());
     let wrong = limits.places(0).open::<String>().err();
     assert_eq!(wrong, Some(OpenError::Shape(Field::Places)));
     assert!(limits.open::<String>().unwrap().create().unwrap().key() > keys[0]);

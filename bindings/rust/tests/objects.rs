@@ -2,7 +2,7 @@
 mod common;
 
 use common::{limit, lock, Gate};
-use pardz::{Clear, CreateError, Field, Key, OpenError, Pool, Shape};
+use pardz::{Clear, CreateError, Field, Key, Lane, OpenError, Pool, Shape};
 use std::sync::atomic::{AtomicUsize, Ordering::SeqCst};
 use std::sync::{mpsc, Arc, Mutex};
 use std::thread;
@@ -246,10 +246,29 @@ fn the_last_one_empties() {
     assert_eq!(here(), [5]);
 }
 
+/// How many objects each thread publishes.
+const ROUNDS: u64 = 3000;
+
+/// Publishes objects, each in the place of one that is cleared while it is held. Answers what this thread emptied.
+fn publish_and_clear(lane: &Lane<Told>, number: u64, keys: &[Mutex<Option<Key>>]) -> Vec<u64> {
+    for round in 0..ROUNDS {
+        let mut told = lane.create().unwrap();
+        told.0 = round * 4 + number;
+        let told = told.downgrade();
+        let place = &keys[(round % 4) as usize];
+        let other = lock(place).replace(told.key());
+        let Some(other) = other else { continue };
+        let held = lane.get(other);
+        assert!(held.is_some() && lane.clear(other));
+        drop(told);
+        drop(held);
+    }
+    EMPTIED.take()
+}
+
 /// However many hold and clear at once, each object is emptied once.
 #[test]
 fn each_is_emptied_once() {
-    const ROUNDS: u64 = 3000;
     let pool = Pool::<Told>::open(shape(4)).unwrap();
     let keys: Vec<Mutex<Option<Key>>> = (0..4).map(|_| Mutex::default()).collect();
     let _limit = limit();
@@ -259,21 +278,7 @@ fn each_is_emptied_once() {
         let threads = lanes.map(|lane| {
             number += 1;
             let keys = &keys;
-            scope.spawn(move || {
-                for round in 0..ROUNDS {
-                    let mut told = lane.create().unwrap();
-                    told.0 = round * 4 + number;
-                    let told = told.downgrade();
-                    let place = &keys[(round % 4) as usize];
-                    let other = lock(place).replace(told.key());
-                    let Some(other) = other else { continue };
-                    let held = lane.get(other);
-                    assert!(held.is_some() && lane.clear(other));
-                    drop(told);
-                    drop(held);
-                }
-                EMPTIED.take()
-            })
+            scope.spawn(move || publish_and_clear(&lane, number, keys))
         });
         threads
             .into_iter()

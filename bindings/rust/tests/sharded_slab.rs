@@ -1,6 +1,10 @@
 //! What programs that were written for sharded-slab's pool lean on. All but `differs` holds of that crate as well.
 #![cfg(target_pointer_width = "64")]
 mod common;
+#[path = "sharded_slab/differs.rs"]
+mod differs;
+#[path = "sharded_slab/keys.rs"]
+mod keys;
 #[path = "sharded_slab/owned.rs"]
 mod owned;
 
@@ -324,28 +328,6 @@ impl Config for Packed {
 }
 
 #[test]
-fn reserved_bits_are_left_alone() {
-    assert_eq!(Pool::<String, Packed>::USED_BITS, 54);
-    assert_eq!(Pool::<String>::USED_BITS, 64);
-    let pool = Arc::new(Pool::<String>::new_with_config::<Packed>());
-    let keys: Vec<usize> = (0..1000)
-        .map(|number| put(&pool, &number.to_string()))
-        .collect();
-    assert!(keys.iter().all(|key| key >> 54 == 0));
-    let flags = 5 << 54;
-    for (number, &key) in keys.iter().enumerate() {
-        assert_eq!(pool.get(key).expect("published"), number.to_string());
-        let owned = pool.clone().get_owned(key).expect("published");
-        assert_eq!(
-            (owned.key(), &*pool.get(key | flags).expect("published")),
-            (key, &*owned)
-        );
-    }
-    assert!(keys.iter().all(|&key| pool.clear(key)));
-    assert!(keys.iter().all(|&key| pool.get(key).is_none()));
-}
-
-#[test]
 fn a_hundred_thousand_at_once() {
     let pool = Pool::<Vec<usize>>::new();
     let keys: Vec<usize> = (0..100_000)
@@ -406,78 +388,4 @@ fn traits() {
         format!("{:?}", pool.clone().create_owned().expect("room")),
         "\"\""
     );
-}
-
-/// What sharded-slab does otherwise.
-mod differs {
-    use super::*;
-
-    #[test]
-    fn a_clear_passes_by_what_is_being_filled() {
-        let pool = texts();
-        for _ in 0..3 {
-            let mut filling = pool.create().expect("room");
-            let key = filling.key();
-            filling.push_str("abc");
-            assert!(!pool.clear(key));
-            assert_eq!(filling, "abc".to_string());
-            drop(filling);
-            assert!(pool.clear(key));
-        }
-    }
-
-    #[test]
-    fn one_clear_alone_says_yes() {
-        let pool = texts();
-        let key = put(&pool, "abc");
-        let text = pool.get(key).expect("published");
-        assert!(pool.clear(key));
-        assert!(!pool.clear(key));
-        assert_eq!(text, "abc".to_string());
-    }
-
-    #[test]
-    fn what_panics_is_not_published() {
-        let pool = Pool::<Item>::new();
-        let (closure, filling) = (Arc::new(Fate::default()), Arc::new(Fate::default()));
-        let panicked = catch_unwind(AssertUnwindSafe(|| {
-            pool.create_with(|item| {
-                *item = Item(closure.clone());
-                let mut other = pool.create().expect("room");
-                *other = Item(filling.clone());
-                panic!("on purpose")
-            })
-        }));
-        assert!(panicked.is_err());
-        assert_eq!(closure.cleared(), 1);
-        // By its drop, as any other.
-        assert_eq!(filling.cleared(), 0);
-    }
-
-    #[test]
-    fn a_create_while_a_thread_ends() {
-        let _limit = limit();
-        struct Last(Arc<Pool<String>>);
-        impl Drop for Last {
-            fn drop(&mut self) {
-                let key = put(&self.0, "last");
-                assert_eq!(self.0.get(key).expect("published"), "last".to_string());
-                assert!(self.0.clear(key));
-            }
-        }
-        thread_local! {
-            static LAST: OnceLock<Last> = const { OnceLock::new() };
-        }
-        let pool = texts();
-        for uses_it_first in [true, false] {
-            let pool = pool.clone();
-            join([thread::spawn(move || {
-                if uses_it_first {
-                    put(&pool, "first");
-                }
-                LAST.with(|last| last.set(Last(pool.clone())).map_err(|_| ()).expect("unset"));
-                put(&pool, "second");
-            })]);
-        }
-    }
 }

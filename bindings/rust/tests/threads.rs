@@ -1,5 +1,7 @@
 //! Calls of many threads, owned handles, and room that grows.
 mod common;
+#[path = "threads/ends.rs"]
+mod ends;
 #[path = "threads/owned.rs"]
 mod owned;
 
@@ -185,7 +187,7 @@ fn a_full_pool_that_does_not_grow() {
     assert_eq!(pool.close().free, 6);
 }
 
-/// Where all shards are in hand all calls but a create are as ever.
+/// If all shards are owned, all calls but a create are as ever.
 #[test]
 fn all_lanes_in_hand() {
     for count in [1, 2, 7, 64] {
@@ -316,54 +318,6 @@ fn a_thread_ends_while_its_references_live() {
         .join()
         .unwrap();
         assert!(links().get(key).is_none());
-    }
-}
-
-/// Calls from the destructor of a thread-local, when the thread has left its shard already.
-struct Caller;
-
-impl Drop for Caller {
-    fn drop(&mut self) {
-        let key = links().put_with(|_| ()).unwrap();
-        assert!(links().get(key).is_some());
-        assert!(links().clear(key));
-        drop(links().create().unwrap());
-        CALLS.fetch_add(1, SeqCst);
-    }
-}
-
-static CALLS: AtomicUsize = AtomicUsize::new(0);
-
-thread_local! {
-    static CALLER: Caller = const { Caller };
-}
-
-#[test]
-fn calls_while_a_thread_ends() {
-    let _limit = limit();
-    for _ in 0..50 {
-        thread::spawn(|| {
-            CALLER.with(|_| ());
-            let key = links().put_with(|_| ()).unwrap();
-            assert!(links().clear(key));
-        })
-        .join()
-        .unwrap();
-    }
-    assert_eq!(CALLS.load(SeqCst), 50);
-}
-
-#[test]
-fn pools_end_before_their_threads() {
-    for round in 0..50 {
-        let pools: Vec<_> = (0..4)
-            .map(|_| Pool::<Vec<u64>>::open(shape(2, 4, 1)).unwrap())
-            .collect();
-        // One after the other, and in turn.
-        (0..10).for_each(|number| use_once(&pools[number as usize % 4], round + number));
-        let moved = pools.into_iter().map(Box::new).collect::<Vec<_>>();
-        moved.iter().for_each(|pool| use_once(pool, round));
-        assert!(moved.into_iter().all(|pool| pool.close().present == 0));
     }
 }
 

@@ -174,7 +174,7 @@ fn references_compare_by_their_objects() {
     assert_eq!((borrowed.as_str(), same.to_string()), ("a", "a".into()));
 }
 
-/// By the pool, or by a lane in hand.
+/// By the pool, or by a `Lane`.
 #[test]
 fn a_put_is_a_copy() {
     let (bytes, texts, lists) = (

@@ -59,6 +59,8 @@ fn the_limits_of_a_shape() {
         let refused = Pool::<Number>::open(wrong).err();
         assert_eq!(refused, Some(OpenError::Shape(field)), "{wrong:?}");
     }
+    let default = Pool::<Number>::open(Shape::default()).expect("a pool");
+    assert_eq!(default.close().unopened, 4 * (32 + 64 + 128));
     for (first_page, places) in [(64, PLACES_OF_A_LANE), (1, 4095 + 4 * 4096)] {
         let pool = opened(1, first_page, 16);
         assert_eq!(pool.census().unopened, places);
@@ -134,6 +136,22 @@ fn sixty_four_threads_have_lanes() {
     let closed = pool.close();
     assert_eq!((closed.present, closed.marked, closed.filling), (0, 0, 0));
     assert_eq!(closed.free + closed.unopened, MOST_LANES * (64 + 128));
+}
+
+/// Shards beyond the first 64 have the next tag: what they have is walked over and counted too.
+#[test]
+fn shards_of_two_tags() {
+    let pool = Pool::<Number>::new();
+    let lanes = (0..=MOST_LANES).map(|_| pool.lane().expect("memory"));
+    let lanes: Vec<Lane<Number>> = lanes.collect();
+    let keys: Vec<Key> = lanes.iter().map(|lane| put(lane, 1)).collect();
+    assert_eq!(u64::from(*keys.last().expect("65 keys")) >> 56, 1);
+    // (A walk that stays at one place has no end.)
+    let walked: Vec<Key> = pool.keys().take(keys.len() + 1).collect();
+    assert_eq!(walked, keys);
+    assert_eq!(pool.len(), keys.len());
+    drop(lanes);
+    assert_eq!(pool.close().present, MOST_LANES + 1);
 }
 
 /// Fills all places of these lanes. Each object has the number of its place.

@@ -34,7 +34,7 @@ mod bits {
     pub const RESERVING_GENERATION: u32 = 32;
 }
 
-/// The last generation that has room beside the reserved bits.
+/// The last generation that fits beside the reserved bits.
 pub(super) const fn last_generation<C: Config>() -> u32 {
     assert!(C::RESERVED_BITS <= 24, "at most 24 bits can be reserved");
     u32::MAX >> C::RESERVED_BITS

@@ -152,8 +152,8 @@ fn references_of_a_pools_object() {
     let pool = crate::Pool::<String>::new();
     let filling = pool.create().expect("a place");
     let key = filling.key();
-    let lent = pool.lent().expect("it has memory");
-    let word = &lent.place(key).expect("it is open").word;
+    let borrowed = pool.borrowed().expect("it has memory");
+    let word = &borrowed.place(key).expect("it is open").word;
     word.0.fetch_add(ONE_COUNT * ((1 << 28) - 1), Relaxed);
     let held = filling.downgrade();
     assert_eq!(pool.try_get(key).err(), Some(GetError::References));

@@ -240,7 +240,39 @@ fn parts_of_lists_while_unwinding() {
     });
 }
 
-/// A clear by a lane in hand, within a drop while the thread unwinds.
+/// An object whose `clear` and whose drop panic, both with bombs, while the thread unwinds.
+#[test]
+fn a_clear_and_a_drop_while_unwinding() {
+    #[derive(Default)]
+    struct Worst(bool);
+    impl Clear for Worst {
+        fn clear(&mut self) {
+            if self.0 {
+                panic_any(Bomb("clear"));
+            }
+        }
+    }
+    impl Drop for Worst {
+        fn drop(&mut self) {
+            if self.0 {
+                panic_any(Bomb("drop"));
+            }
+        }
+    }
+    alone("payloads::a_clear_and_a_drop_while_unwinding", || {
+        let pool = Pool::<Worst>::open(shape(1, 1, 1)).unwrap();
+        for _ in 0..3 {
+            assert!(panics(|| {
+                let mut filling = pool.create().unwrap();
+                filling.0 = true;
+                panic!("on purpose");
+            }));
+        }
+        assert_eq!(pool.close().free, 1);
+    });
+}
+
+/// A clear by a `Lane`, within a drop while the thread unwinds.
 #[test]
 fn a_lane_clears_while_unwinding() {
     struct Clears<'l, 'p>(&'l pardz::Lane<'p, Node>, Key);

@@ -1,4 +1,4 @@
-//! The C library's seats, of which one call at a time has each, its owned references, and its calls by any thread.
+//! The C library's posts, of which one call at a time has each, its owned references, and its calls by any thread.
 use crate::c_library::{
     look, wait, Answer, CFilling, CPool, CRef, Lent, OwnedSlot, BUSY, EMPTIED, ENDED, GONE,
     NO_FILLING, NO_REFERENCE,
@@ -10,7 +10,7 @@ use std::ptr;
 use std::sync::atomic::Ordering::Relaxed;
 
 /// A pool, and what threads have of it.
-struct Seats {
+struct Posts {
     pool: CPool,
     /// How many places it has.
     places: u32,
@@ -31,21 +31,21 @@ struct Seats {
 }
 
 // SAFETY: as of `CPool`.
-unsafe impl Sync for Seats {}
+unsafe impl Sync for Posts {}
 // SAFETY: as of `CPool`.
-unsafe impl Send for Seats {}
+unsafe impl Send for Posts {}
 
 /// What is published first under each key, and then.
 const TEXTS: [&str; 2] = ["first", "second"];
 const LATER: &str = "later";
 
-impl Seats {
+impl Posts {
     /// A pool of so many lanes with so many places each, and so many keys, put by the first lane.
-    fn of(lanes: u32, places: u32, keys: usize) -> Seats {
-        let world = Seats::unattached();
+    fn of(lanes: u32, places: u32, keys: usize) -> Posts {
+        let world = Posts::unattached();
         world.pool.attach(lanes, places);
         let keys = TEXTS[..keys].iter().map(|text| world.pool.put(0, text));
-        Seats {
+        Posts {
             keys: keys.map(|key| key.expect("a place")).collect(),
             places: lanes * places,
             ..world
@@ -53,8 +53,8 @@ impl Seats {
     }
 
     /// One that a thread is to attach.
-    fn unattached() -> Seats {
-        Seats {
+    fn unattached() -> Posts {
+        Posts {
             pool: CPool::empty(),
             places: 0,
             other: CPool::empty(),
@@ -70,8 +70,8 @@ impl Seats {
     }
 
     /// A pool of objects, with one, and a reference to it.
-    fn of_objects() -> Seats {
-        let mut world = Seats::unattached();
+    fn of_objects() -> Posts {
+        let mut world = Posts::unattached();
         world.pool.grow_of(TEXTS[0].len());
         world.keys = vec![world.pool.any_put(TEXTS[0]).expect("a place")];
         world.refs = vec![world.pool.any_get(world.keys[0]).expect("it is published")];
@@ -79,34 +79,34 @@ impl Seats {
     }
 
     /// The same, with another slot for the first thread.
-    fn shared(self) -> Seats {
+    fn shared(self) -> Posts {
         self.pool.share(&self.other);
         self
     }
 
     /// The same, with a reference to each key by this lane; `clear` says whether each is cleared then.
-    fn lent(mut self, lane: u32, clear: bool) -> Seats {
+    fn lent(mut self, lane: u32, clear: bool) -> Posts {
         let lents = self.keys.iter().map(|key| self.pool.get(lane, *key));
         self.lents = lents.map(|lent| lent.expect("a reference")).collect();
         self.cleared_if(clear)
     }
 
     /// The same, with an owned reference to each key, by the first lane.
-    fn owned(mut self, clear: bool) -> Seats {
+    fn owned(mut self, clear: bool) -> Posts {
         let owned = self.keys.iter().map(|key| self.pool.own(0, *key));
         self.owned = owned.map(|owned| owned.expect("a reference")).collect();
         self.cleared_if(clear)
     }
 
     /// The same, with two references to the first key, of no lane.
-    fn referred(mut self) -> Seats {
+    fn referred(mut self) -> Posts {
         let found = (0..2).map(|_| self.pool.any_get(self.keys[0]));
         self.refs = found.map(|found| found.expect("it is published")).collect();
         self
     }
 
     /// The same, with what a release by mistake would tell of the first owned reference.
-    fn lent_of_owned(mut self) -> Seats {
+    fn lent_of_owned(mut self) -> Posts {
         self.lents.push(Lent {
             at: ptr::null(),
             len: 0,
@@ -117,13 +117,13 @@ impl Seats {
     }
 
     /// The same, with an owned reference to the first key, by no lane.
-    fn owning(mut self) -> Seats {
+    fn owning(mut self) -> Posts {
         let owned = self.pool.any_own(&self.refs[0]);
         self.owned = vec![owned.expect("few references")];
         self
     }
 
-    fn cleared_if(self, clear: bool) -> Seats {
+    fn cleared_if(self, clear: bool) -> Posts {
         for key in self.keys.iter().filter(|_| clear) {
             assert_eq!(self.pool.clear(0, *key), Ok(()));
         }
@@ -131,7 +131,7 @@ impl Seats {
     }
 
     /// The same, with one more slot for the first owned reference.
-    fn again(mut self) -> Seats {
+    fn again(mut self) -> Posts {
         self.owned.push(self.owned[0].again());
         self
     }
@@ -154,60 +154,60 @@ impl Seats {
 }
 
 pub fn all() -> Vec<Scenario> {
-    let one_lane = || Seats::of(1, 2, 1);
-    let one_owned = || Seats::of(1, 2, 1).owned(true);
+    let one_lane = || Posts::of(1, 2, 1);
+    let one_owned = || Posts::of(1, 2, 1).owned(true);
     vec![
         // One lane, and each thread waits for it.
-        Scenario::new("seat-cycle", || Seats::of(1, 2, 0), [cycle; 2], free).bounded(3),
-        Scenario::new("seat-cycle-two", || Seats::of(2, 2, 0), [cycle; 2], free).bounded(3),
+        Scenario::new("post-cycle", || Posts::of(1, 2, 0), [cycle; 2], free).bounded(3),
+        Scenario::new("post-cycle-two", || Posts::of(2, 2, 0), [cycle; 2], free).bounded(3),
         Scenario::new(
-            "seat-three",
-            || Seats::of(2, 2, 0),
+            "post-three",
+            || Posts::of(2, 2, 0),
             [cycle_from_one, cycle, cycle],
             free,
         )
         .bounded(2),
         // Nobody waits: who finds the lane had is told so, and has done nothing.
-        Scenario::new("seat-had", one_lane, [try_get, try_clear], cleared_or_not),
+        Scenario::new("post-had", one_lane, [try_get, try_clear], cleared_or_not),
         Scenario::new(
-            "seat-had-three",
+            "post-had-three",
             one_lane,
             [try_get, try_clear, try_put],
             put_or_not,
         )
         .bounded(3),
         Scenario::new(
-            "seat-any",
-            || Seats::of(2, 1, 1),
+            "post-any",
+            || Posts::of(2, 1, 1),
             [get_from_one, get_from_one],
             |world| world.settle(1),
         ),
-        Scenario::new("seat-clear-both", one_lane, [clear, clear], cleared_once),
+        Scenario::new("post-clear-both", one_lane, [clear, clear], cleared_once),
         Scenario::new(
-            "seat-clear-by-two",
-            || Seats::of(2, 1, 1),
+            "post-clear-by-two",
+            || Posts::of(2, 1, 1),
             [clear, clear_from_one],
             cleared_once,
         ),
         Scenario::new(
-            "seat-release",
-            || Seats::of(2, 1, 1).lent(1, false),
+            "post-release",
+            || Posts::of(2, 1, 1).lent(1, false),
             [release_lent, clear_and_put],
             put_later,
         ),
         Scenario::new(
-            "seat-release-last",
-            || Seats::of(2, 1, 1).lent(1, true),
+            "post-release-last",
+            || Posts::of(2, 1, 1).lent(1, true),
             [release_lent, put_when_free],
             put_later,
         ),
-        Scenario::new("seat-detach", one_lane, [get_once, detach_when_had], done),
-        Scenario::new("seat-detach-last", one_lane, [leave_last; 2], done),
-        Scenario::new("seat-attach", || Seats::of(1, 1, 0), [own_pool; 2], free),
+        Scenario::new("post-detach", one_lane, [get_once, detach_when_had], done),
+        Scenario::new("post-detach-last", one_lane, [leave_last; 2], done),
+        Scenario::new("post-attach", || Posts::of(1, 1, 0), [own_pool; 2], free),
         // A pool in a slot of each thread.
         Scenario::new(
-            "seat-share",
-            || Seats::of(1, 2, 1).shared(),
+            "post-share",
+            || Posts::of(1, 2, 1).shared(),
             [clear_and_unshare, detach_last],
             |_| (),
         ),
@@ -219,19 +219,19 @@ pub fn all() -> Vec<Scenario> {
         Scenario::new("own-in-a-cycle", one_owned, [disown, cycle], free).bounded(3),
         Scenario::new(
             "own-both-counted",
-            || Seats::of(1, 2, 2).owned(true),
+            || Posts::of(1, 2, 2).owned(true),
             [disown, disown_second, census],
             free,
         ),
         Scenario::new(
             "own-not-released",
-            || Seats::of(1, 1, 1).owned(true).lent_of_owned(),
+            || Posts::of(1, 1, 1).owned(true).lent_of_owned(),
             [release_none, disown],
             free,
         ),
         Scenario::new(
             "own-slots",
-            || Seats::of(1, 1, 1).owned(true).again(),
+            || Posts::of(1, 1, 1).owned(true).again(),
             [disown, disown_second],
             free,
         ),
@@ -241,69 +241,69 @@ pub fn all() -> Vec<Scenario> {
         }),
         Scenario::new(
             "own-outlives",
-            || Seats::of(1, 1, 1).owned(false),
+            || Posts::of(1, 1, 1).owned(false),
             [detach, disown],
             drop,
         ),
         Scenario::new(
             "own-outlives-slots",
-            || Seats::of(1, 1, 1).owned(true).again(),
+            || Posts::of(1, 1, 1).owned(true).again(),
             [detach, disown, disown_second],
             drop,
         ),
         Scenario::new(
             "own-outlives-two",
-            || Seats::of(1, 2, 2).owned(true),
+            || Posts::of(1, 2, 2).owned(true),
             [detach, disown, disown_second],
             drop,
         ),
         Scenario::new(
             "own-outlives-attached",
-            Seats::unattached,
+            Posts::unattached,
             [attach_and_detach, take_over],
             drop,
         ),
         Scenario::new(
             "own-outlives-lanes",
-            || Seats::of(2, 1, 1).owned(false),
+            || Posts::of(2, 1, 1).owned(false),
             [own_clear_and_detach, disown],
             drop,
         ),
         // By any thread.
-        Scenario::new("any-cycle", || Seats::of(1, 2, 0), [any_cycle; 2], free).bounded(2),
+        Scenario::new("any-cycle", || Posts::of(1, 2, 0), [any_cycle; 2], free).bounded(2),
         Scenario::new(
             "any-and-lanes",
-            || Seats::of(1, 2, 1),
+            || Posts::of(1, 2, 1),
             [any_get, clear],
             cleared_once,
         )
         .bounded(3),
         Scenario::new(
             "any-release",
-            || Seats::of(1, 1, 1).referred(),
+            || Posts::of(1, 1, 1).referred(),
             [any_release, any_clone_and_release, any_clear],
             cleared_once,
         )
         .bounded(3),
         Scenario::new(
             "any-own",
-            || Seats::of(1, 1, 1).referred(),
+            || Posts::of(1, 1, 1).referred(),
             [any_own, any_clear],
             cleared_once,
         )
         .bounded(3),
         Scenario::new(
             "any-filling",
-            || Seats::of(1, 2, 0),
+            || Posts::of(1, 2, 0),
             [begin_and_hand_on, go_on],
             free,
         )
         .bounded(3),
-        Scenario::new("any-grown", Seats::unattached, [grow_and_cycle; 2], drop).bounded(1),
+        Scenario::new("any-grown", Posts::unattached, [grow_and_cycle; 2], drop).bounded(1),
         // Of objects, whose ends the program is told.
         Scenario::new(
             "object-release",
-            Seats::of_objects,
+            Posts::of_objects,
             [any_release, any_clear],
             |world| {
                 assert_eq!(EMPTIED.load(Relaxed), 1, "objects that were emptied");
@@ -314,7 +314,7 @@ pub fn all() -> Vec<Scenario> {
         ),
         Scenario::new(
             "object-outlives",
-            || Seats::of_objects().owning(),
+            || Posts::of_objects().owning(),
             [disown, release_and_detach],
             |_| assert_eq!((EMPTIED.load(Relaxed), ENDED.load(Relaxed)), (1, 1)),
         ),
@@ -322,7 +322,7 @@ pub fn all() -> Vec<Scenario> {
 }
 
 /// A life of a key that is filled in place, by calls of any thread.
-fn any_cycle(world: &Seats) {
+fn any_cycle(world: &Posts) {
     let pool = &world.pool;
     let key = wait(0, |_| pool.any_put(LATER)).expect("a place");
     let mut found = pool.any_get(key).expect("it is published");
@@ -338,7 +338,7 @@ fn any_cycle(world: &Seats) {
     assert_eq!(pool.any_release(&mut found), Err(NO_REFERENCE));
 }
 
-fn any_get(world: &Seats) {
+fn any_get(world: &Posts) {
     match world.pool.any_get(world.keys[0]) {
         Ok(mut found) => {
             found.look(TEXTS[0]);
@@ -348,14 +348,14 @@ fn any_get(world: &Seats) {
     }
 }
 
-fn any_release(world: &Seats) {
+fn any_release(world: &Posts) {
     let mut found = world.refs[0];
     found.look(TEXTS[0]);
     assert_eq!(world.pool.any_release(&mut found), Ok(()));
 }
 
 /// One more reference of the second, which is there as long as that.
-fn any_clone_and_release(world: &Seats) {
+fn any_clone_and_release(world: &Posts) {
     let mut found = world.refs[1];
     let mut more = world.pool.any_clone(&found).expect("few references");
     assert_eq!(world.pool.any_release(&mut found), Ok(()));
@@ -364,17 +364,17 @@ fn any_clone_and_release(world: &Seats) {
 }
 
 /// The pool ends, but for its owned reference.
-fn release_and_detach(world: &Seats) {
+fn release_and_detach(world: &Posts) {
     any_release(world);
     assert_eq!(world.pool.detach().expect("nobody calls").present, 1);
 }
 
-fn any_clear(world: &Seats) {
+fn any_clear(world: &Posts) {
     world.count_clear(world.pool.any_clear(world.keys[0]));
 }
 
 /// An owned reference of a reference.
-fn any_own(world: &Seats) {
+fn any_own(world: &Posts) {
     let (mut first, mut second) = (world.refs[0], world.refs[1]);
     let owned = world.pool.any_own(&first).expect("few references");
     assert_eq!(world.pool.any_release(&mut first), Ok(()));
@@ -384,7 +384,7 @@ fn any_own(world: &Seats) {
 }
 
 /// Fills half, and hands the filling on.
-fn begin_and_hand_on(world: &Seats) {
+fn begin_and_hand_on(world: &Posts) {
     let mut filling = wait(0, |_| world.pool.any_create()).expect("a place");
     assert_eq!(world.pool.any_append(&mut filling, "la"), Ok(()));
     let (to, is_there) = &world.filling;
@@ -395,7 +395,7 @@ fn begin_and_hand_on(world: &Seats) {
 }
 
 /// A filling that isn't published.
-fn drop_one(world: &Seats) {
+fn drop_one(world: &Posts) {
     let mut dropped = wait(0, |_| world.pool.any_create()).expect("a place");
     assert_eq!(world.pool.any_append(&mut dropped, LATER), Ok(()));
     assert_eq!(world.pool.any_drop(&mut dropped), Ok(()));
@@ -403,7 +403,7 @@ fn drop_one(world: &Seats) {
 }
 
 /// Fills the other half, publishes and clears.
-fn go_on(world: &Seats) {
+fn go_on(world: &Posts) {
     let (from, is_there) = &world.filling;
     while is_there.load(Ordering::Acquire) == 0 {
         explorer::yield_now();
@@ -419,7 +419,7 @@ fn go_on(world: &Seats) {
 }
 
 /// The last of two threads closes a pool that grows, which the first one opens.
-fn grow_and_cycle(world: &Seats) {
+fn grow_and_cycle(world: &Posts) {
     let (_, is_open) = &world.handed[1];
     if world.done.fetch_add(1, Ordering::AcqRel) == 0 {
         world.pool.grow();
@@ -436,16 +436,16 @@ fn grow_and_cycle(world: &Seats) {
     }
 }
 
-fn cycle(world: &Seats) {
+fn cycle(world: &Posts) {
     cycle_from(world, 0);
 }
 
-fn cycle_from_one(world: &Seats) {
+fn cycle_from_one(world: &Posts) {
     cycle_from(world, 1);
 }
 
 /// A life of a key, by calls that wait for a lane.
-fn cycle_from(world: &Seats, from: u32) {
+fn cycle_from(world: &Posts, from: u32) {
     let pool = &world.pool;
     let key = wait(from, |from| pool.put(from, LATER)).expect("a place");
     let lent = wait(from, |from| pool.get(from, key)).expect("it is published");
@@ -457,11 +457,11 @@ fn cycle_from(world: &Seats, from: u32) {
     assert_eq!(wait(0, |_| pool.release(&lent)), Ok(()));
 }
 
-fn free(world: Seats) {
+fn free(world: Posts) {
     world.settle(0);
 }
 
-fn try_get(world: &Seats) {
+fn try_get(world: &Posts) {
     match world.pool.get(0, world.keys[0]) {
         Ok(lent) => {
             look(lent.at, lent.len, TEXTS[0]);
@@ -471,44 +471,44 @@ fn try_get(world: &Seats) {
     }
 }
 
-fn try_clear(world: &Seats) {
+fn try_clear(world: &Posts) {
     world.count_clear(world.pool.clear(0, world.keys[0]));
 }
 
-fn try_put(world: &Seats) {
+fn try_put(world: &Posts) {
     match world.pool.put(0, LATER) {
         Ok(_) => drop(world.done.fetch_add(1, Ordering::Relaxed)),
         Err(code) => assert_eq!(code, BUSY),
     }
 }
 
-fn cleared_or_not(world: Seats) {
+fn cleared_or_not(world: Posts) {
     let cleared = world.cleared.load(Ordering::Relaxed);
     world.settle(1 - cleared);
 }
 
-fn put_or_not(world: Seats) {
+fn put_or_not(world: Posts) {
     let cleared = world.cleared.load(Ordering::Relaxed);
     let put = world.done.load(Ordering::Relaxed);
     world.settle(1 + put - cleared);
 }
 
 /// A get, which finds a lane as long as one is free.
-fn get_from_one(world: &Seats) {
+fn get_from_one(world: &Posts) {
     let lent = world.pool.get(1, world.keys[0]).expect("a lane is free");
     look(lent.at, lent.len, TEXTS[0]);
     assert_eq!(wait(0, |_| world.pool.release(&lent)), Ok(()));
 }
 
-fn clear(world: &Seats) {
+fn clear(world: &Posts) {
     world.count_clear(wait(0, |from| world.pool.clear(from, world.keys[0])));
 }
 
-fn clear_from_one(world: &Seats) {
+fn clear_from_one(world: &Posts) {
     world.count_clear(wait(1, |from| world.pool.clear(from, world.keys[0])));
 }
 
-fn cleared_once(world: Seats) {
+fn cleared_once(world: Posts) {
     assert_eq!(
         world.cleared.load(Ordering::Relaxed),
         1,
@@ -517,7 +517,7 @@ fn cleared_once(world: Seats) {
     world.settle(0);
 }
 
-fn release_lent(world: &Seats) {
+fn release_lent(world: &Posts) {
     let lent = &world.lents[0];
     look(lent.at, lent.len, TEXTS[0]);
     assert_eq!(wait(0, |_| world.pool.release(lent)), Ok(()));
@@ -525,36 +525,36 @@ fn release_lent(world: &Seats) {
 }
 
 /// A release of what no lane has.
-fn release_none(world: &Seats) {
+fn release_none(world: &Posts) {
     let released = wait(0, |_| world.pool.release(&world.lents[0]));
     assert_eq!(released, Err(NO_REFERENCE));
 }
 
-fn clear_and_put(world: &Seats) {
+fn clear_and_put(world: &Posts) {
     clear(world);
     put_when_free(world);
 }
 
 /// Puts, if the lane's one place is free by now.
-fn put_when_free(world: &Seats) {
+fn put_when_free(world: &Posts) {
     if wait(0, |from| world.pool.put(from, LATER)).is_ok() {
         world.done.fetch_add(1, Ordering::Relaxed);
     }
 }
 
-fn put_later(world: Seats) {
+fn put_later(world: Posts) {
     let put = world.done.load(Ordering::Relaxed);
     world.settle(put);
 }
 
 /// The thread's only call.
-fn get_once(world: &Seats) {
+fn get_once(world: &Posts) {
     let got = world.pool.get(0, world.keys[0]);
     assert!(matches!(got, Ok(_) | Err(GONE | BUSY)));
 }
 
 /// If the other thread is in its only call, detaches as soon as that has left its lane.
-fn detach_when_had(world: &Seats) {
+fn detach_when_had(world: &Posts) {
     if world.pool.clear(0, world.keys[0]) == Err(BUSY) {
         let census = wait(0, |_| world.pool.detach()).expect("nobody has a lane");
         assert_eq!((census.present, census.free), (1, 1));
@@ -562,14 +562,14 @@ fn detach_when_had(world: &Seats) {
     }
 }
 
-fn clear_and_unshare(world: &Seats) {
+fn clear_and_unshare(world: &Posts) {
     let cleared = wait(0, |from| world.other.clear(from, world.keys[0]));
     assert_eq!(cleared, Ok(()));
     world.other.unshare();
 }
 
 /// Looks, and detaches as soon as the other slot is empty.
-fn detach_last(world: &Seats) {
+fn detach_last(world: &Posts) {
     if let Ok(lent) = wait(0, |from| world.pool.get(from, world.keys[0])) {
         look(lent.at, lent.len, TEXTS[0]);
         assert_eq!(wait(0, |_| world.pool.release(&lent)), Ok(()));
@@ -578,14 +578,14 @@ fn detach_last(world: &Seats) {
     assert_eq!((census.present, census.marked, census.free), (0, 0, 2));
 }
 
-fn done(world: Seats) {
+fn done(world: Posts) {
     if world.done.load(Ordering::Relaxed) == 0 {
         world.pool.detach().expect("nobody calls");
     }
 }
 
 /// The last of two threads closes the pool.
-fn leave_last(world: &Seats) {
+fn leave_last(world: &Posts) {
     let lent = wait(0, |from| world.pool.get(from, world.keys[0])).expect("it is published");
     look(lent.at, lent.len, TEXTS[0]);
     assert_eq!(wait(0, |_| world.pool.release(&lent)), Ok(()));
@@ -595,36 +595,36 @@ fn leave_last(world: &Seats) {
 }
 
 /// A pool of the thread's own, beside another thread's.
-fn own_pool(_: &Seats) {
-    let world = Seats::of(1, 1, 1).owned(true);
+fn own_pool(_: &Posts) {
+    let world = Posts::of(1, 1, 1).owned(true);
     disown(&world);
     world.settle(0);
 }
 
-fn own_and_disown(world: &Seats) {
+fn own_and_disown(world: &Posts) {
     let owned = wait(0, |from| world.pool.own(from, world.keys[0])).expect("it is published");
     owned.look(TEXTS[0]);
     owned.disown();
 }
 
-fn own_and_hand_on(world: &Seats) {
+fn own_and_hand_on(world: &Posts) {
     let owned = wait(0, |from| world.pool.own(from, world.keys[0])).expect("it is published");
     hand_on(world, 0, owned);
     clear(world);
 }
 
-fn hand_on(world: &Seats, index: usize, owned: OwnedSlot) {
+fn hand_on(world: &Posts, index: usize, owned: OwnedSlot) {
     let (to, is_there) = &world.handed[index];
     // SAFETY: the other thread reads it when it is told so.
     unsafe { *to.get() = Some(owned) };
     is_there.store(1, Ordering::Release);
 }
 
-fn take_over(world: &Seats) {
+fn take_over(world: &Posts) {
     take_over_from(world, 0);
 }
 
-fn take_over_from(world: &Seats, index: usize) {
+fn take_over_from(world: &Posts, index: usize) {
     let (from, is_there) = &world.handed[index];
     while is_there.load(Ordering::Acquire) == 0 {
         explorer::yield_now();
@@ -636,11 +636,11 @@ fn take_over_from(world: &Seats, index: usize) {
 }
 
 /// A pool of one key from its attach to its detach, which the key's owned reference outlives.
-fn attach_and_detach(world: &Seats) {
+fn attach_and_detach(world: &Posts) {
     attach_and_own(world, 1);
 }
 
-fn attach_and_own(world: &Seats, count: usize) {
+fn attach_and_own(world: &Posts, count: usize) {
     world.pool.attach(1, count as u32);
     for (index, text) in TEXTS.iter().enumerate().take(count) {
         let key = wait(0, |from| world.pool.put(from, text)).expect("a place");
@@ -651,41 +651,41 @@ fn attach_and_own(world: &Seats, count: usize) {
     assert_eq!(census.present as usize, count);
 }
 
-fn disown(world: &Seats) {
+fn disown(world: &Posts) {
     disown_slot(world, 0);
 }
 
-fn disown_second(world: &Seats) {
+fn disown_second(world: &Posts) {
     disown_slot(world, 1);
 }
 
-fn disown_slot(world: &Seats, index: usize) {
+fn disown_slot(world: &Posts, index: usize) {
     world.owned[index].look(TEXTS[index % world.keys.len()]);
     world.owned[index].disown();
 }
 
 /// Another slot for the reference of one that other threads use too.
-fn again(world: &Seats) {
+fn again(world: &Posts) {
     let other = world.owned[0].again();
     other.look(TEXTS[0]);
     other.disown();
 }
 
 /// Counts while others are in calls. (A place that is emptied just then counts as filling.)
-fn census(world: &Seats) {
+fn census(world: &Posts) {
     let census = world.pool.census();
     let others = census.free + census.marked + census.filling;
     assert_eq!((others, census.present), (2, 0));
 }
 
-fn detach(world: &Seats) {
+fn detach(world: &Posts) {
     let census = world.pool.detach().expect("nobody calls");
     let unused = census.free + census.unopened + census.filling;
     assert_eq!(unused + census.present + census.marked, world.places);
 }
 
 /// An owned reference that outlives its pool, beside another one of the same key.
-fn own_clear_and_detach(world: &Seats) {
+fn own_clear_and_detach(world: &Posts) {
     let owned = wait(1, |from| world.pool.own(from, world.keys[0])).expect("it is published");
     clear(world);
     detach(world);
