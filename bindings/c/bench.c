@@ -32,13 +32,13 @@ static const uint8_t BYTES[64] = { 7 };
 static pardz_pool pool = PARDZ_EMPTY;
 
 /* A lane, on a line of the cache of its own. */
-struct seat {
+struct worker {
     _Alignas(64) pardz_lane lane;
     long rounds;
     uint64_t count;
 };
 
-static struct seat seats[MOST_THREADS];
+static struct worker workers[MOST_THREADS];
 
 static void must(uint32_t code) {
     if (code != PARDZ_OK) {
@@ -62,34 +62,34 @@ static uint64_t put_by_calls(pardz_lane *lane) {
 }
 
 static void *get_many(void *at) {
-    struct seat *seat = at;
+    struct worker *worker = at;
     uint64_t keys[MANY];
     for (int i = 0; i < MANY; i++)
-        keys[i] = put(&seat->lane);
-    for (long round = 0; round < seat->rounds; round++) {
+        keys[i] = put(&worker->lane);
+    for (long round = 0; round < worker->rounds; round++) {
         const uint8_t *bytes;
         size_t len = 0;
-        must(pardz_get(&seat->lane, keys[round % MANY], &bytes, &len));
-        seat->count += len;
-        must(pardz_release(&seat->lane, keys[round % MANY]));
+        must(pardz_get(&worker->lane, keys[round % MANY], &bytes, &len));
+        worker->count += len;
+        must(pardz_release(&worker->lane, keys[round % MANY]));
     }
     return NULL;
 }
 
 static void *cycle(void *at) {
-    struct seat *seat = at;
-    for (long round = 0; round < seat->rounds; round++) {
-        must(pardz_clear(&seat->lane, put(&seat->lane)));
-        seat->count++;
+    struct worker *worker = at;
+    for (long round = 0; round < worker->rounds; round++) {
+        must(pardz_clear(&worker->lane, put(&worker->lane)));
+        worker->count++;
     }
     return NULL;
 }
 
 static void *calls(void *at) {
-    struct seat *seat = at;
-    for (long round = 0; round < seat->rounds; round++) {
-        must(pardz_clear(&seat->lane, put_by_calls(&seat->lane)));
-        seat->count++;
+    struct worker *worker = at;
+    for (long round = 0; round < worker->rounds; round++) {
+        must(pardz_clear(&worker->lane, put_by_calls(&worker->lane)));
+        worker->count++;
     }
     return NULL;
 }
@@ -101,38 +101,38 @@ static uint64_t any_put(void) {
 }
 
 static void *any_get(void *at) {
-    struct seat *seat = at;
+    struct worker *worker = at;
     uint64_t keys[MANY];
     for (int i = 0; i < MANY; i++)
         keys[i] = any_put();
-    for (long round = 0; round < seat->rounds; round++) {
+    for (long round = 0; round < worker->rounds; round++) {
         pardz_ref ref;
         must(pardz_any_get(&pool, keys[round % MANY], &ref));
-        seat->count += ref.len;
+        worker->count += ref.len;
         must(pardz_any_release(&pool, &ref));
     }
     return NULL;
 }
 
 static void *any_cycle(void *at) {
-    struct seat *seat = at;
-    for (long round = 0; round < seat->rounds; round++) {
+    struct worker *worker = at;
+    for (long round = 0; round < worker->rounds; round++) {
         must(pardz_any_clear(&pool, any_put()));
-        seat->count++;
+        worker->count++;
     }
     return NULL;
 }
 
 static void *any_calls(void *at) {
-    struct seat *seat = at;
-    for (long round = 0; round < seat->rounds; round++) {
+    struct worker *worker = at;
+    for (long round = 0; round < worker->rounds; round++) {
         pardz_filling filling;
         uint64_t key;
         must(pardz_any_create(&pool, &filling));
         must(pardz_any_append(&pool, &filling, BYTES, sizeof BYTES));
         must(pardz_any_publish(&pool, &filling, &key));
         must(pardz_any_clear(&pool, key));
-        seat->count++;
+        worker->count++;
     }
     return NULL;
 }
@@ -168,21 +168,21 @@ int main(int argc, char **argv) {
     if (pardz_grow != NULL)
         must(pardz_grow(&limits, &pool));
     for (long i = 0; i < threads; i++) {
-        seats[i].lane = lanes[i];
-        seats[i].rounds = atol(argv[3]);
+        workers[i].lane = lanes[i];
+        workers[i].rounds = atol(argv[3]);
     }
     /* One thread needs no other. */
     if (threads == 1)
-        work(&seats[0]);
+        work(&workers[0]);
     else
         for (long i = 0; i < threads; i++)
-            must((uint32_t)pthread_create(&running[i], NULL, work, &seats[i]));
+            must((uint32_t)pthread_create(&running[i], NULL, work, &workers[i]));
     uint64_t count = 0;
     for (long i = 0; i < threads; i++) {
         if (threads > 1)
             must((uint32_t)pthread_join(running[i], NULL));
-        count += seats[i].count;
-        lanes[i] = seats[i].lane;
+        count += workers[i].count;
+        lanes[i] = workers[i].lane;
     }
     pardz_census census;
     must(pardz_close_all(lanes, (size_t)threads, &census));

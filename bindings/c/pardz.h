@@ -19,8 +19,9 @@
  * up, pardz_disown, and a thread's exit.
  *
  * Link with heap.c and one of two libraries, whose calls do the same: libpoolffi.a, which is proved up to these calls, for x86-64 of
- * level 2 (x86-64-v2) and ELF; or libpardz.a or libpardz.so, which cargo builds, and which are made from the proved sources and not
- * proved. In C99, C++11 or later; pardz.hpp has classes for C++. docs/C.md tells what may be relied on, and README.md of the two.
+ * level 2 (x86-64-v2) and ELF; or libpardz.a or libpardz.so, which cargo builds, and which are in part translated from the proved
+ * sources, and not proved. In C99, C++11 or later; pardz.hpp has classes for C++. docs/C.md tells what may be relied on, and README.md
+ * of the two.
  *
  * The caller's duties (nothing checks them):
  *

@@ -327,7 +327,7 @@ private:
 /// For a shared_pool that grows, but no further than its limits: shared_pool pool(pardz::grows, limits).
 enum grows_t { grows };
 
-/// A pool that any number of threads call at once, over libpardz.a or libpardz.so, with nothing in hand. It grows; or it has a shape, and then a
+/// A pool that any number of threads call at once, over libpardz.a or libpardz.so. They hold nothing for it. It grows; or it has a shape, and then a
 /// put or a create waits where others have all its lanes.
 class shared_pool {
 public:

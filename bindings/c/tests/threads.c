@@ -19,7 +19,7 @@ static pardz_shape shape = { 4, 4, 2, UINT32_MAX, 0 };
 static long rounds = 20000;
 
 /* The lane of a thread, on a line of the cache of its own. */
-struct seat {
+struct worker {
     _Alignas(64) pardz_lane lane;
     long got, missed, cleared, full;
 };
@@ -29,7 +29,7 @@ struct offers {
     _Alignas(64) _Atomic uint64_t key[WAYS];
 };
 
-static struct seat seats[MOST_THREADS];
+static struct worker workers[MOST_THREADS];
 static struct offers offers[MOST_THREADS];
 
 /* What a key's bytes are, told by the key alone. */
@@ -41,13 +41,13 @@ static size_t expected(uint64_t key, uint8_t *bytes) {
 }
 
 /* Publishes one buffer, filled in two pieces beside another filling. 0 where no place was free. */
-static uint64_t put(struct seat *seat, long round) {
-    pardz_lane *lane = &seat->lane;
+static uint64_t put(struct worker *worker, long round) {
+    pardz_lane *lane = &worker->lane;
     uint8_t bytes[MOST], *to = NULL;
     uint64_t key, other;
     uint32_t code = pardz_create(lane, &key);
     if (code == PARDZ_FULL) {
-        seat->full++;
+        worker->full++;
         return 0;
     }
     CHECK(code == PARDZ_OK);
@@ -71,28 +71,28 @@ static uint64_t put(struct seat *seat, long round) {
 }
 
 /* Offers a key, or none, in place of an older one, which is cleared. */
-static void offer(struct seat *seat, struct offers *own, long round, uint64_t key) {
+static void offer(struct worker *worker, struct offers *own, long round, uint64_t key) {
     uint64_t old = atomic_exchange(&own->key[round % WAYS], key);
     if (old != 0)
-        seat->cleared += pardz_clear(&seat->lane, old) == PARDZ_OK;
+        worker->cleared += pardz_clear(&worker->lane, old) == PARDZ_OK;
 }
 
 /* Gets a key, reads it, and clears it at each third round. */
-static void look(struct seat *seat, uint64_t key, long round) {
-    pardz_lane *lane = &seat->lane;
+static void look(struct worker *worker, uint64_t key, long round) {
+    pardz_lane *lane = &worker->lane;
     uint8_t bytes[MOST];
     const uint8_t *at = NULL, *again = NULL;
     size_t len = 0, len_again = 0;
     uint32_t code = pardz_get(lane, key, &at, &len);
     if (code == PARDZ_GONE) {
-        seat->missed++;
+        worker->missed++;
         return;
     }
     CHECK(code == PARDZ_OK && len == expected(key, bytes) && (len == 0 || memcmp(at, bytes, len) == 0));
     if (round % 3 == 0) {
         code = pardz_clear(lane, key);
         CHECK(code == PARDZ_OK || code == PARDZ_GONE);
-        seat->cleared += code == PARDZ_OK;
+        worker->cleared += code == PARDZ_OK;
         CHECK(pardz_get(lane, key, &again, &len_again) == PARDZ_GONE);
     } else if (pardz_get(lane, key, &again, &len_again) == PARDZ_OK) {
         CHECK(len_again == len && (len == 0 || again == at));
@@ -101,22 +101,22 @@ static void look(struct seat *seat, uint64_t key, long round) {
     CHECK(pardz_read(lane, key, &again, &len_again) == PARDZ_OK && len_again == len);
     CHECK(len == 0 || memcmp(at, bytes, len) == 0);
     CHECK(pardz_release(lane, key) == PARDZ_OK && pardz_read(lane, key, &again, &len_again) == PARDZ_NO_REFERENCE);
-    seat->got++;
+    worker->got++;
 }
 
 static void *work(void *number) {
     size_t me = (size_t)number;
-    struct seat *seat = &seats[me];
+    struct worker *worker = &workers[me];
     for (long round = 0; round < rounds; round++) {
-        uint64_t key = put(seat, round);
-        offer(seat, &offers[me], round, key);
+        uint64_t key = put(worker, round);
+        offer(worker, &offers[me], round, key);
         struct offers *from = &offers[(me + (size_t)round) % shape.lanes];
         key = atomic_load(&from->key[round * 7 % WAYS]);
         if (key != 0)
-            look(seat, key, round);
+            look(worker, key, round);
     }
     for (long way = 0; way < WAYS; way++)
-        offer(seat, &offers[me], way, 0);
+        offer(worker, &offers[me], way, 0);
     return NULL;
 }
 
@@ -133,17 +133,17 @@ int main(int argc, char **argv) {
     CHECK(pardz_open(&shape, lanes, count) == PARDZ_OK);
     pthread_t threads[MOST_THREADS];
     for (size_t i = 0; i < count; i++) {
-        seats[i].lane = lanes[i];
+        workers[i].lane = lanes[i];
         CHECK(pthread_create(&threads[i], NULL, work, (void *)i) == 0);
     }
     long got = 0, missed = 0, cleared = 0, full = 0;
     for (size_t i = 0; i < count; i++) {
         CHECK(pthread_join(threads[i], NULL) == 0);
-        lanes[i] = seats[i].lane;
-        got += seats[i].got;
-        missed += seats[i].missed;
-        cleared += seats[i].cleared;
-        full += seats[i].full;
+        lanes[i] = workers[i].lane;
+        got += workers[i].got;
+        missed += workers[i].missed;
+        cleared += workers[i].cleared;
+        full += workers[i].full;
     }
     pardz_census census;
     CHECK(pardz_close_all(lanes, count, &census) == PARDZ_OK);

@@ -47,7 +47,7 @@ macro_rules! by {
                 let $slot = &objects.0;
                 $call
             }
-            Store::Seated(_, opened) => {
+            Store::Lanes(_, opened) => {
                 let $slot = &opened.pool;
                 $call
             }

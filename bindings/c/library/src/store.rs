@@ -1,4 +1,4 @@
-//! Pools that any thread calls. One of a shape has lanes, which lie in seats, and from a seat one call at a time has the lane: so any number of
+//! Pools that any thread calls. One of a shape has lanes, which lie in posts, and from a post one call at a time has the lane: so any number of
 //! threads call it.
 use crate::code::{must, Answer, Refusal};
 use crate::content::{Kind, Object};
@@ -12,21 +12,21 @@ use std::cell::UnsafeCell;
 use std::iter;
 
 /// What the explorer calls it.
-const LANE: &str = "a lane in its seat";
+const LANE: &str = "a lane in its post";
 
 /// Where a lane lies.
-pub(crate) struct Seat {
+pub(crate) struct Post {
     is_had: AtomicBool,
     lane: UnsafeCell<Lane>,
 }
 
 // SAFETY: who turned `is_had` has the lane alone, until it turns that back; and a lane goes from thread to thread.
-unsafe impl Sync for Seat where Lane: Send {}
+unsafe impl Sync for Post where Lane: Send {}
 
-impl Seat {
-    fn new(lane: Lane) -> Answer<Seat> {
+impl Post {
+    fn new(lane: Lane) -> Answer<Post> {
         let (is_had, lane) = (AtomicBool::new(false), UnsafeCell::new(lane));
-        Ok(Seat { is_had, lane })
+        Ok(Post { is_had, lane })
     }
 
     fn is_had(&self) -> bool {
@@ -66,7 +66,7 @@ impl PoolLimits {
 #[repr(u8)]
 pub(crate) enum Store {
     Buffers(Pool<Buffer>),
-    Seated(Vec<Seat>, Share<Opened>),
+    Lanes(Vec<Post>, Share<Opened>),
     Objects(Box<(Pool<Object>, Share<Kind>)>),
 }
 
@@ -74,8 +74,8 @@ impl Store {
     /// Opens a pool of this shape.
     pub(crate) fn attach(shape: &Shape) -> Answer<Share<Store>> {
         // (No lane of it is joined to one of another pool, so its number tells nothing.)
-        let (opened, seats) = lane::open(shape, 0, Seat::new)?;
-        Share::new(Store::Seated(seats, opened))
+        let (opened, posts) = lane::open(shape, 0, Post::new)?;
+        Share::new(Store::Lanes(posts, opened))
     }
 
     /// Opens one that grows.
@@ -92,7 +92,7 @@ impl Store {
     pub(crate) fn create(&self) -> Answer<PoolFilling> {
         Ok(match self {
             Store::Buffers(pool) => PoolFilling::hand(pool.create()?),
-            Store::Seated(..) => PoolFilling::hand(self.by_any(0, Lane::begin)?),
+            Store::Lanes(..) => PoolFilling::hand(self.by_any(0, Lane::begin)?),
             Store::Objects(objects) => PoolFilling::hand(begin(objects)?),
         })
     }
@@ -101,7 +101,7 @@ impl Store {
     pub(crate) fn put(&self, bytes: &[u8]) -> Answer<u64> {
         match self {
             Store::Buffers(pool) => Ok(pool.put(bytes)?.into()),
-            Store::Seated(..) => put(self.by_any(0, Lane::begin)?, bytes),
+            Store::Lanes(..) => put(self.by_any(0, Lane::begin)?, bytes),
             Store::Objects(objects) => {
                 let size = objects.1.size;
                 must(size == 0 || size == bytes.len(), Refusal::Room)?;
@@ -112,9 +112,9 @@ impl Store {
         }
     }
 
-    fn seats(&self) -> &[Seat] {
+    fn posts(&self) -> &[Post] {
         match self {
-            Store::Seated(seats, _) => seats,
+            Store::Lanes(posts, _) => posts,
             _ => &[],
         }
     }
@@ -126,25 +126,25 @@ impl Store {
         from: u32,
         call: impl FnOnce(&mut Lane) -> Answer<V>,
     ) -> Answer<V> {
-        let from = (from as usize).checked_rem(self.seats().len());
-        let (before, behind) = self.seats().split_at(from.ok_or(Refusal::EmptyLane)?);
+        let from = (from as usize).checked_rem(self.posts().len());
+        let (before, behind) = self.posts().split_at(from.ok_or(Refusal::EmptyLane)?);
         by_first(behind.iter().chain(before), call)
     }
 
     /// Gives a reference back, by the lane that keeps it.
     pub(crate) fn release(&self, lane: u32, key: u64) -> Answer {
-        let seat = self.seats().get(lane as usize);
-        let seat = seat.ok_or(Refusal::NoReference)?;
-        by_first(iter::once(seat), |lane| lane.release(key))
+        let post = self.posts().get(lane as usize);
+        let post = post.ok_or(Refusal::NoReference)?;
+        by_first(iter::once(post), |lane| lane.release(key))
     }
 
     fn close(self) -> Answer<Census> {
         match self {
             Store::Buffers(pool) => Ok(pool.close()),
             Store::Objects(objects) => Ok(objects.0.close()),
-            Store::Seated(seats, opened) => {
-                for seat in seats {
-                    seat.lane.into_inner().end();
+            Store::Lanes(posts, opened) => {
+                for post in posts {
+                    post.lane.into_inner().end();
                 }
                 lane::close_last(opened)
             }
@@ -155,15 +155,15 @@ impl Store {
 /// Calls by the first of these lanes that no call has, and leaves it.
 #[inline]
 fn by_first<'s, V>(
-    mut seats: impl Iterator<Item = &'s Seat>,
+    mut posts: impl Iterator<Item = &'s Post>,
     call: impl FnOnce(&mut Lane) -> Answer<V>,
 ) -> Answer<V> {
-    let seat = seats.find(|seat| seat.begins()).ok_or(Refusal::Busy)?;
-    sync::writes(seat.lane.get(), LANE);
+    let post = posts.find(|post| post.begins()).ok_or(Refusal::Busy)?;
+    sync::writes(post.lane.get(), LANE);
     // SAFETY: `begins` said that this call has the lane alone.
-    let answer = call(unsafe { &mut *seat.lane.get() });
-    sync::writes(seat.lane.get(), LANE);
-    seat.is_had.store(false, Ordering::Release);
+    let answer = call(unsafe { &mut *post.lane.get() });
+    sync::writes(post.lane.get(), LANE);
+    post.is_had.store(false, Ordering::Release);
     answer
 }
 
@@ -187,6 +187,6 @@ pub(crate) type PoolSlot = Slot<Share<Store>>;
 pub(crate) fn detach(slot: &mut PoolSlot) -> Answer<Census> {
     let store = slot.get()?;
     must(store.is_last(), Refusal::Shared)?;
-    must(!store.seats().iter().any(Seat::is_had), Refusal::Busy)?;
+    must(!store.posts().iter().any(Post::is_had), Refusal::Busy)?;
     slot.take()?.into_inner().ok_or(Refusal::Shared)?.close()
 }
