@@ -250,7 +250,7 @@ def notes():
 def text_at(path):
     """The text of a file, or of all files of a folder. Pages leave out the ending of a file of definitions or proofs."""
     if path.is_dir():
-        return "\n".join(text_of(it) for it in sorted(path.rglob("*")) if it.is_file() and "out" not in it.parts)
+        return "\n".join(text_of(it) for it in sorted(path.rglob("*")) if it.is_file() and {"out", "target"}.isdisjoint(it.parts))
     return text_of(path if path.exists() else path.with_name(path.name + ".antt"))
 
 
